@@ -1,0 +1,5 @@
+// Exact numbers: what a number kind is, and the laws that it keeps.
+pub mod fault;
+pub mod number;
+pub mod report;
+pub mod value;
