@@ -6,23 +6,23 @@ pub record Fraction : Type 0 where
   pub top : ℤ
   pub bottom : ℤ
 
-abbrev pub _over_ : ℤ → ℤ → Fraction
-_over_ a b = record { top = a; bottom = b }
+abbrev pub fraction : ℤ → ℤ → Fraction
+fraction a b = record { top = a; bottom = b }
 
 abbrev pub whole : ℤ → Fraction
-whole a = _over_ a (pos 1)
+whole a = fraction a (pos 1)
 
 abbrev pub plus : Fraction → Fraction → Fraction
-plus a b = _over_ (a .top *ℤ b .bottom +ℤ a .bottom *ℤ b .top) (a .bottom *ℤ b .bottom)
+plus a b = fraction (a .top *ℤ b .bottom +ℤ a .bottom *ℤ b .top) (a .bottom *ℤ b .bottom)
 
 abbrev pub times : Fraction → Fraction → Fraction
-times a b = _over_ (a .top *ℤ b .top) (a .bottom *ℤ b .bottom)
+times a b = fraction (a .top *ℤ b .top) (a .bottom *ℤ b .bottom)
 
 abbrev pub opposite : Fraction → Fraction
-opposite a = _over_ (negℤ (a .top)) (a .bottom)
+opposite a = fraction (negℤ (a .top)) (a .bottom)
 
 abbrev pub turned : Fraction → Fraction
-turned a = _over_ (a .bottom) (a .top)
+turned a = fraction (a .bottom) (a .top)
 
 -- a - b c
 abbrev pub less-times : Fraction → Fraction → Fraction → Fraction

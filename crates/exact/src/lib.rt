@@ -2,4 +2,5 @@
 pub mod fault;
 pub mod number;
 pub mod report;
+pub mod shown;
 pub mod value;

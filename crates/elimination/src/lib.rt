@@ -1,0 +1,2 @@
+// Stating a line over the held ones, in exact numbers of any kind.
+pub mod fault;

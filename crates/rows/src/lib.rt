@@ -1,0 +1,2 @@
+// Rows of numbers of any kind.
+pub mod fault;
