@@ -1,2 +1,4 @@
-// Rows of numbers of any kind.
+// Rows of numbers of any kind: elimination's operations on them.
+pub mod columns;
 pub mod fault;
+pub mod row;
