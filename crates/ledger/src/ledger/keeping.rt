@@ -1,0 +1,57 @@
+ghost use mathlib.Core.Path.{_≡_};
+ghost use mathlib.Core.Bool.{cond};
+ghost use Rattle.ledger.specs.Listed.{listed, empty, holding, may-hold};
+use super::Ledger;
+use crate::entry::Entry;
+
+pub const MOST_SET_POINTS: usize = 48;
+
+impl Ledger {
+    // A ledger with no entry. More than 48 set points are none.
+    pub fn new(n: usize) -> Ledger
+        ensures { λ r. ⌜ listed r ≡ empty n ⌝ }
+    {
+        let entries = [Entry {
+            label: 0,
+            subject: 0,
+        }; 48];
+        let n = if n <= MOST_SET_POINTS { n } else { 0 };
+        Ledger {
+            n,
+            count: 0,
+            entries,
+        }
+    }
+
+    pub fn set_points(&self) -> usize
+        ensures { λ r. ⌜ r ≡ listed (now (self .entry)) .n ⌝ }
+    {
+        self.n
+    }
+
+    // The entries of the held lines, by place.
+    pub fn entries(&self) -> &[Entry]
+        ensures { λ r. ⌜ now r ≡ listed (now (self .entry)) .entries ⌝ }
+    {
+        &self.entries[0..self.count]
+    }
+
+    // Enters a line last. Answers false, and enters nothing, where there are n lines or the subject is no set point.
+    pub fn hold(&mut self, label: u32, subject: usize) -> bool
+        ensures answer { λ r. ⌜ r ≡ may-hold subject (listed (now (self .entry))) ⌝ }
+        ensures after { λ r. ⌜ listed (now (self .exit)) ≡ cond r (holding label subject (listed (now (self .entry)))) (listed (now (self .entry))) ⌝ }
+    {
+        if self.count >= self.n {
+            return false;
+        }
+        if subject >= self.n {
+            return false;
+        }
+        self.entries[self.count] = Entry {
+            label,
+            subject: subject as u8,
+        };
+        self.count += 1;
+        true
+    }
+}
