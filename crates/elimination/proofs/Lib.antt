@@ -1,0 +1,5 @@
+pub mod Places
+pub mod Tests
+mod Refused
+mod Walks
+mod Back
