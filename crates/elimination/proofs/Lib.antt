@@ -3,3 +3,7 @@ pub mod Tests
 mod Refused
 mod Walks
 mod Back
+mod Telling
+mod Writing
+mod Opening
+mod Solving

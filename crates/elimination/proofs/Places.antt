@@ -55,10 +55,8 @@ row-is n j m = ap (λ k. take k (drop (row-place n j) m)) (omega arith)
 pub row-length : {V : Type 0} (n j : ℕ) (m : List V) → row-place n j + wide n ≤ length m → length (row-at n m j) ≡ wide n
 row-length n j m h = length-take-le (wide n) (drop (row-place n j) m) (let d = length-drop (row-place n j) m in omega arith)
 
--- what two memories have alike from a row on, they have alike from a later row on
-pub rest-from : {V : Type 0} (n j h : ℕ) → j < h → (m m′ : List V) → drop (row-place n j) m ≡ drop (row-place n j) m′ → drop (row-place n h) m ≡ drop (row-place n h) m′
-rest-from n j h b m m′ e =
-    let up = row-next n j h b in
-    let d : row-place n j + (row-place n h - row-place n j) ≡ row-place n h = omega (arith, up) in
-    let cut = row-place n h - row-place n j in
-    ap (λ i. drop i m) (sym d) ∙ sym (drop-drop cut (row-place n j) m) ∙ ap (drop cut) e ∙ drop-drop cut (row-place n j) m′ ∙ ap (λ i. drop i m′) d
+-- what two lists have alike from a place on, they have alike from a later place on
+pub rest-past : {V : Type 0} (a b : ℕ) → a ≤ b → (m m′ : List V) → drop a m ≡ drop a m′ → drop b m ≡ drop b m′
+rest-past a b h m m′ e =
+    let d : a + (b - a) ≡ b = omega arith in
+    ap (λ i. drop i m) (sym d) ∙ sym (drop-drop (b - a) a m) ∙ ap (drop (b - a)) e ∙ drop-drop (b - a) a m′ ∙ ap (λ i. drop i m′) d

@@ -1,19 +1,24 @@
 -- Stating a line: the verdict, the answer, and what then stands.
 use mathlib.Core.List.{List, [], _∷_, _++_, map}
 use mathlib.Core.Path.{_≡_}
-use Prim.Native.Nat.{ℕ}
+use Prim.Native.Nat.{ℕ, _<_}
 use lib.IntN.{ℤ}
 use lib.ListN.{length, drop}
+use Rattle.std.specs.declared.option.Option.{Option}
+use Rattle.std.specs.declared.option.Option.the-variants.{Some, None}
 use Rattle.std.specs.declared.result.Result.{Result}
 use Rattle.std.specs.declared.result.Result.the-variants.{Ok, Err}
 use Rattle.exact.specs.Kind.{Kind}
 use Rattle.exact.specs.Answers.{value-of}
+use Rattle.ledger.specs.declared.entry.Entry.{Entry}
+use Rattle.ledger.specs.Listed.{Listed, holding}
 use Rattle.elimination.specs.declared.course.Course.{Course}
 use Rattle.elimination.specs.declared.course.Course.the-variants.{Follows, Taken}
+use Rattle.elimination.specs.declared.fault.StepFault.{StepFault}
 use Rattle.elimination.specs.declared.fault.SheetFault.{SheetFault}
 use Rattle.elimination.specs.declared.fault.SheetFault.the-variants.{Clash}
 use Rattle.elimination.specs.declared.record.Record.{Record}
-use Rattle.elimination.specs.Held.{HeldLine}
+use Rattle.elimination.specs.Held.{HeldLine, row-at, line-at, held-lines, held-in}
 use Rattle.elimination.specs.Refusals.{refusal}
 use Rattle.elimination.specs.Steps.{Verdict, refused, follows, clash, taken, steps}
 
@@ -38,9 +43,42 @@ held-after follows hs = hs
 held-after (clash rs) hs = hs
 held-after (taken q hs′) hs = hs′
 
+abbrev pub over-written : {X : Type 0} → List X → List X → List X
+over-written new old = new ++ drop (length new) old
+
 -- the records after it: evidence over the first, the others as they were
 abbrev pub records-after : {V : Type 0} → Verdict V → List (Record V) → List (Record V)
 records-after (refused f) old = old
 records-after follows old = old
-records-after (clash rs) old = rs ++ drop (length rs) old
+records-after (clash rs) old = over-written rs old
 records-after (taken q hs) old = old
+
+-- ---- what the parts of it promise
+-- a line is written with its row, after the others with theirs; or nothing is written
+abbrev pub Holds : {V : Type 0} → Result (List V × List (HeldLine V)) StepFault → (n : ℕ) → List Entry → List V → List V → List V → Type 0
+Holds (Ok rows) n es line m m′ = (held-lines n m′ 0 es ≡ rows .1) × (row-at n m′ (length es) ≡ rows .0) × (line-at n m′ (length es) ≡ line)
+Holds (Err f) n es line m m′ = m′ ≡ m
+
+-- a subject is a set point, and there is a place for the line
+abbrev pub Found : (n h : ℕ) → Option ℕ → Type 0
+Found n h None = Unit {0}
+Found n h (Some q) = (q < n) × (h < n)
+
+abbrev pub Proper : (n h : ℕ) → Result Course SheetFault → Type 0
+Proper n h (Err f) = Unit {0}
+Proper n h (Ok Follows) = Unit {0}
+Proper n h (Ok (Taken q)) = (q < n) × (h < n)
+
+-- the memory is as it was, or has the held lines of the verdict
+abbrev pub Stands : {V : Type 0} → Verdict V → (n label : ℕ) → List Entry → List V → List V → Type 0
+Stands (refused f) n label es m m′ = m′ ≡ m
+Stands follows n label es m m′ = m′ ≡ m
+Stands (clash rs) n label es m m′ = m′ ≡ m
+Stands (taken q hs) n label es m m′ = held-lines n m′ 0 (es ++ record { label = label; subject = q } ∷ []) ≡ hs
+
+-- the same of a ledger over the memory
+abbrev pub Listed-after : {V : Type 0} → Verdict V → (label : ℕ) → Listed → List V → List V → Type 0
+Listed-after (refused f) label l m m′ = m′ ≡ m
+Listed-after follows label l m m′ = m′ ≡ m
+Listed-after (clash rs) label l m m′ = m′ ≡ m
+Listed-after (taken q hs) label l m m′ = held-in (holding label q l) m′ ≡ hs

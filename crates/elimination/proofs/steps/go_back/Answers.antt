@@ -11,7 +11,7 @@ use Rattle.rows.specs.Row.{done, Leaves, cleared}
 use Rattle.elimination.specs.declared.fault.Step.the-variants.{Back}
 use Rattle.elimination.specs.Held.{wide, needed, row-place, row-at}
 use Rattle.elimination.proofs.Back.{Gone, gone-start, gone-more, gone-stop, gone-all}
-use Rattle.elimination.proofs.Places.{row-next, row-small, row-fits, row-is, row-length, rest-from}
+use Rattle.elimination.proofs.Places.{row-next, row-small, row-fits, row-is, row-length, rest-past}
 use Rattle.elimination.proofs.Walks.{located-ok, located-err, leaves-ok, leaves-err}
 use Rattle.elimination.proofs.steps.go_back.Needs as need
 
@@ -78,7 +78,7 @@ returns-in-Break-at-place g c =
     record {
       answer = p .1 ∙ ap Err (p .2) ∙ sym (ap done all);
       made = leaves-err _ f _ all;
-      rest = drop-putMid (row-place n j) (row-place n j + wide n - row-place n j) m v (row-place n h) (omega (arith, up, width)) (omega arith) long ∙ rest-from n j h (c .loop-j-test .taken) m (a .memory .now) (c .loop-j .inv .rest);
+      rest = drop-putMid (row-place n j) (row-place n j + wide n - row-place n j) m v (row-place n h) (omega (arith, up, width)) (omega arith) long ∙ rest-past (row-place n j) (row-place n h) (omega (arith, up)) m (a .memory .now) (c .loop-j .inv .rest);
     }
 
 pub offset-memory-from : need.offset-memory-from
