@@ -7,3 +7,5 @@ mod Telling
 mod Writing
 mod Opening
 mod Solving
+mod Verdicts
+pub mod Shown

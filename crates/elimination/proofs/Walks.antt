@@ -23,6 +23,10 @@ pub made-ok : {X E : Type 0} (m : Result X E) (x : X) → done m ≡ Ok tt → L
 made-ok (Ok y) x e l = ap Ok (sym l)
 made-ok (Err f) x e l = let z : _≡_ {A = ℕ} 0 1 = cc in absurd (omega arith)
 
+pub made-from : {X E : Type 0} (m : Result X E) → done m ≡ Ok tt → (x : X) × (m ≡ Ok x)
+made-from (Ok x) e = (x, refl)
+made-from (Err f) e = let z : _≡_ {A = ℕ} 0 1 = cc in absurd (omega arith)
+
 pub made-err : {X E : Type 0} (m : Result X E) (f : E) → done m ≡ Err f → m ≡ Err f
 made-err (Ok y) f e = let z : _≡_ {A = ℕ} 0 1 = cc in absurd (omega arith)
 made-err (Err g) f e = let d : g ≡ f = cc in ap Err d

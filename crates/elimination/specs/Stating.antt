@@ -1,4 +1,5 @@
 -- Stating a line: the verdict, the answer, and what then stands.
+use mathlib.Core.Bool.{true}
 use mathlib.Core.List.{List, [], _∷_, _++_, map}
 use mathlib.Core.Path.{_≡_}
 use Prim.Native.Nat.{ℕ, _<_}
@@ -11,7 +12,7 @@ use Rattle.std.specs.declared.result.Result.the-variants.{Ok, Err}
 use Rattle.exact.specs.Kind.{Kind}
 use Rattle.exact.specs.Answers.{value-of}
 use Rattle.ledger.specs.declared.entry.Entry.{Entry}
-use Rattle.ledger.specs.Listed.{Listed, holding}
+use Rattle.ledger.specs.Listed.{Listed, holding, may-hold}
 use Rattle.elimination.specs.declared.course.Course.{Course}
 use Rattle.elimination.specs.declared.course.Course.the-variants.{Follows, Taken}
 use Rattle.elimination.specs.declared.fault.StepFault.{StepFault}
@@ -82,3 +83,9 @@ Listed-after (refused f) label l m m′ = m′ ≡ m
 Listed-after follows label l m m′ = m′ ≡ m
 Listed-after (clash rs) label l m m′ = m′ ≡ m
 Listed-after (taken q hs) label l m m′ = held-in (holding label q l) m′ ≡ hs
+
+-- the ledger has a place for a line that is taken
+abbrev pub Holdable : Listed → Result Course SheetFault → Type 0
+Holdable l (Err f) = Unit {0}
+Holdable l (Ok Follows) = Unit {0}
+Holdable l (Ok (Taken q)) = may-hold q l ≡ true
