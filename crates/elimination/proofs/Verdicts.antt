@@ -68,7 +68,6 @@ module _ {V : Type 0} (K : Kind V) (label : ℕ) (line : List V) (q : ℕ) (r : 
       let k = subst (λ x. Holds x n es line m m′) e h in
       subst (λ x. Stands x n label es m m′) (sym (added-made rows e))
       (held-more n m′ 0 es (record { label = label; subject = q })
-        ∙ ap (λ l. l ++ held-line n m′ (0 + length es) (record { label = label; subject = q }) ∷ []) (k .0)
-        ∙ ap (λ x. rows .1 ++ x ∷ []) (ap (λ i. held-line n m′ i (record { label = label; subject = q })) (omega arith)
-            ∙ ap (λ l. record { label = label; subject = q; line = l; row = row-at n m′ (length es) }) (k .2) ∙ ap (λ w. record { label = label; subject = q; line = line; row = w }) (k .1)))
-
+      ∙ ap (λ l. l ++ held-line n m′ (0 + length es) (record { label = label; subject = q }) ∷ []) (k .0)
+      ∙ ap (λ x. rows .1 ++ x ∷ []) (ap (λ i. held-line n m′ i (record { label = label; subject = q })) (omega arith)
+      ∙ ap (λ l. record { label = label; subject = q; line = l; row = row-at n m′ (length es) }) (k .2) ∙ ap (λ w. record { label = label; subject = q; line = line; row = w }) (k .1)))

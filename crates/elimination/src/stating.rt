@@ -56,7 +56,13 @@ fn subject_of<K: Number>(w: &[K], n: usize, h: usize) -> Option<usize>
 }
 
 // What a line comes to whose row has no set point left.
-fn spent<K: Number>(w: &[K], n: usize, entries: &[Entry], label: u32, records: &mut [Record<K>]) -> Result<Course, SheetFault>
+fn spent<K: Number>(
+    w: &[K],
+    n: usize,
+    entries: &[Entry],
+    label: u32,
+    records: &mut [Record<K>],
+) -> Result<Course, SheetFault>
     requires few { ⌜ n ≤ 48 ⌝ }
     requires held { ⌜ length (now entries) ≤ n ⌝ }
     requires width { ⌜ length (now w) ≡ wide n ⌝ }
@@ -73,7 +79,15 @@ fn spent<K: Number>(w: &[K], n: usize, entries: &[Entry], label: u32, records: &
 }
 
 // All the steps over a line, in the row w.
-fn advance<K: Number>(w: &mut [K], n: usize, entries: &[Entry], memory: &mut [K], line: &[K], label: u32, records: &mut [Record<K>]) -> Result<Course, SheetFault>
+fn advance<K: Number>(
+    w: &mut [K],
+    n: usize,
+    entries: &[Entry],
+    memory: &mut [K],
+    line: &[K],
+    label: u32,
+    records: &mut [Record<K>],
+) -> Result<Course, SheetFault>
     requires few { ⌜ n ≤ 48 ⌝ }
     requires blank { ⌜ now w ≡ replicate (wide n) (kind .nil) ⌝ }
     requires held { ⌜ length (now entries) ≤ n ⌝ }
@@ -99,7 +113,16 @@ fn advance<K: Number>(w: &mut [K], n: usize, entries: &[Entry], memory: &mut [K]
 }
 
 // Loads a line that is not refused and goes through its steps, in blank numbers for the line and for its row.
-fn begin<K: Number>(values: &mut [K], row: &mut [K], n: usize, entries: &[Entry], memory: &mut [K], line: &[i32], label: u32, records: &mut [Record<K>]) -> Result<Course, SheetFault>
+fn begin<K: Number>(
+    values: &mut [K],
+    row: &mut [K],
+    n: usize,
+    entries: &[Entry],
+    memory: &mut [K],
+    line: &[i32],
+    label: u32,
+    records: &mut [Record<K>],
+) -> Result<Course, SheetFault>
     requires few { ⌜ n ≤ 48 ⌝ }
     requires values { ⌜ now values ≡ replicate 49 (kind .nil) ⌝ }
     requires row { ⌜ now row ≡ replicate 97 (kind .nil) ⌝ }
@@ -116,7 +139,15 @@ fn begin<K: Number>(values: &mut [K], row: &mut [K], n: usize, entries: &[Entry]
         Ok(()) => {}
         Err(_) => unreachable(),
     }
-    advance(&mut row[0..2 * n + 1], n, entries, memory, &values[0..n + 1], label, records)
+    advance(
+        &mut row[0..2 * n + 1],
+        n,
+        entries,
+        memory,
+        &values[0..n + 1],
+        label,
+        records,
+    )
 }
 
 // The set points and entries that a ledger shows over so much memory: none where the memory does not do for them.
@@ -136,7 +167,13 @@ fn fitting(ledger: &Ledger, have: usize) -> (usize, &[Entry])
 }
 
 // States a line over the held lines of a ledger and its memory. The ledger is left to the caller, who enters a line that is taken.
-pub fn state_line<K: Number>(ledger: &Ledger, memory: &mut [K], line: &[i32], label: u32, records: &mut [Record<K>]) -> Result<Course, SheetFault>
+pub fn state_line<K: Number>(
+    ledger: &Ledger,
+    memory: &mut [K],
+    line: &[i32],
+    label: u32,
+    records: &mut [Record<K>],
+) -> Result<Course, SheetFault>
     ensures answer { λ r. ⌜ r ≡ course (stating kind (size-in (listed (now (ledger .entry))) (length (now (memory .entry)))) (held-in (listed (now (ledger .entry))) (now (memory .entry))) (now (line .entry)) label (length (now (records .entry)))) ⌝ }
     ensures proper { λ r. ⌜ Holdable (listed (now (ledger .entry))) r ⌝ }
     ensures held { λ _. ⌜ Listed-after (stating kind (size-in (listed (now (ledger .entry))) (length (now (memory .entry)))) (held-in (listed (now (ledger .entry))) (now (memory .entry))) (now (line .entry)) label (length (now (records .entry)))) label (listed (now (ledger .entry))) (now (memory .entry)) (now (memory .exit)) ⌝ }
@@ -149,5 +186,14 @@ pub fn state_line<K: Number>(ledger: &Ledger, memory: &mut [K], line: &[i32], la
     let blank: K = zero();
     let mut values = [blank; 49];
     let mut row = [blank; 97];
-    begin(&mut values, &mut row, n, entries, memory, line, label, records)
+    begin(
+        &mut values,
+        &mut row,
+        n,
+        entries,
+        memory,
+        line,
+        label,
+        records,
+    )
 }

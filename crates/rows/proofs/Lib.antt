@@ -1,3 +1,4 @@
 pub mod Sweeps
 pub mod Ops
 pub mod Loads
+pub mod Tables

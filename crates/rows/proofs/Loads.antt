@@ -16,8 +16,7 @@ use Rattle.rows.specs.Row.{placed, ahead, onto, by-column, whole-op, whole-row
 use Rattle.rows.proofs.Ops.{whole-inside}
 
 module _ {V : Type 0} {K : Kind V} {admits : Fraction → Type 0} {alike : Fraction → Fraction → Type 0} {complete : Bool} (laws : Lawful K admits alike complete) (numbers : List ℤ)
-  (small : (u : ℕ) → u < length numbers → natAbs (getD numbers u (pos 0)) ≤ 1000000) where
-
+    (small : (u : ℕ) → u < length numbers → natAbs (getD numbers u (pos 0)) ≤ 1000000) where
   from : (i : ℕ) (w : List V) → i + length w ≡ length numbers → by-column (whole-op K numbers) i w ≡ Ok (map (value-of K) (drop i numbers))
   from i [] e = ap (λ l. Ok (map (value-of K) l)) (sym (drop-all i numbers (omega arith)))
   from i (x ∷ w) e =

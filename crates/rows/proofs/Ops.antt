@@ -18,7 +18,7 @@ use Rattle.exact.specs.Kind.{Kind, Lawful}
 use Rattle.exact.specs.Answers.{whole-of, less-of, over-of}
 use Rattle.exact.proofs.Held.{less-held, over-held}
 use Rattle.rows.specs.declared.fault.RowFault.{RowFault}
-use Rattle.rows.specs.Row.{at, done, by-column, swept, whole-op, less-op, over-op, less-row, over-row, cleared, clear-swept, highest}
+use Rattle.rows.specs.Row.{at, done, by-column, less-swept, whole-op, less-op, over-op, less-row, over-row, cleared, clear-swept, highest}
 use Rattle.rows.proofs.Sweeps.{always}
 
 pub inside : (u m : ℕ) → u < m → ltb u m ≡ true
@@ -70,14 +70,14 @@ module _ {V : Type 0} (K : Kind V) where
   unfolding cleared clear-swept
   cleared-zero s w r x e z =
       let t : K .isZero (at K w s) ≡ true = ap (K .isZero) e ∙ z in
-      (ap (λ b. cond b (Ok w) (less-row K (at K w s) w r)) t, ap (λ b. cond b w (swept (less-op K (at K w s) r) 0 w)) t)
+      (ap (λ b. cond b (Ok w) (less-row K (at K w s) w r)) t, ap (λ b. cond b w (less-swept K (at K w s) w r)) t)
 
-  pub cleared-less : (s : ℕ) (w r : List V) (x : V) → at K w s ≡ x → K .isZero x ≡ false → (cleared K s w r ≡ less-row K x w r) × (clear-swept K s w r ≡ swept (less-op K x r) 0 w)
+  pub cleared-less : (s : ℕ) (w r : List V) (x : V) → at K w s ≡ x → K .isZero x ≡ false → (cleared K s w r ≡ less-row K x w r) × (clear-swept K s w r ≡ less-swept K x w r)
   unfolding cleared clear-swept
   cleared-less s w r x e z =
       let t : K .isZero (at K w s) ≡ false = ap (K .isZero) e ∙ z in (
         ap (λ b. cond b (Ok w) (less-row K (at K w s) w r)) t ∙ ap (λ y. less-row K y w r) e,
-        ap (λ b. cond b w (swept (less-op K (at K w s) r) 0 w)) t ∙ ap (λ y. swept (less-op K y r) 0 w) e,
+        ap (λ b. cond b w (less-swept K (at K w s) w r)) t ∙ ap (λ y. less-swept K y w r) e,
       )
 
   pub highest-more : (w : List V) (i : ℕ) (x : V) → i < length w → x ≡ getD w i x → highest K (i + 1) w ≡ cond (K .isZero x) (highest K i w) (Some i)

@@ -82,8 +82,12 @@ over-row K f w = by-column (over-op K f) 0 w
 unfoldable pub cleared : {V : Type 0} → Kind V → ℕ → List V → List V → Result (List V) RowFault
 cleared K s w r = cond (K .isZero (at K w s)) (Ok w) (less-row K (at K w s) w r)
 
+-- the row w as that work leaves it
+unfoldable pub less-swept : {V : Type 0} → Kind V → V → List V → List V → List V
+less-swept K f w r = swept (less-op K f r) 0 w
+
 unfoldable pub clear-swept : {V : Type 0} → Kind V → ℕ → List V → List V → List V
-clear-swept K s w r = cond (K .isZero (at K w s)) w (swept (less-op K (at K w s) r) 0 w)
+clear-swept K s w r = cond (K .isZero (at K w s)) w (less-swept K (at K w s) w r)
 
 -- the highest of the first m columns that is not 0
 abbrev pub highest : {V : Type 0} → Kind V → ℕ → List V → Option ℕ

@@ -1,11 +1,20 @@
 ghost use mathlib.Core.Path.{_≡_};
 ghost use mathlib.Core.Bool.{true, false};
-ghost use lib.ListN.{length};
+ghost use lib.ListN.{length, replicate};
 ghost use Rattle.std.specs.declared.result.Result.the-variants.{Ok};
-ghost use Rattle.rows.specs.Row.{done, Leaves, swept, whole-op, less-op, over-op, whole-row, less-row, over-row, cleared, clear-swept, highest};
+ghost use Rattle.rows.specs.Row.{done, Leaves, swept, whole-op, over-op, whole-row, less-row, over-row, cleared, highest};
 use crate::columns::at_column;
 use crate::fault::RowFault;
 use exact::number::Number;
+
+// Writes one value into each column.
+pub fn fill<K: Number>(w: &mut [K], v: K)
+    ensures { λ _. ⌜ now (w .exit) ≡ replicate (length (now (w .entry))) v ⌝ }
+{
+    for i in 0..w.len() {
+        w[i] = v;
+    }
+}
 
 // Writes the values of whole numbers over a row, as far as both go.
 pub fn load<K: Number>(w: &mut [K], numbers: &[i32]) -> Result<(), RowFault>
@@ -20,21 +29,7 @@ pub fn load<K: Number>(w: &mut [K], numbers: &[i32]) -> Result<(), RowFault>
     Ok(())
 }
 
-// Takes f times the row `by` from the row w, as far as both go.
-pub fn subtract<K: Number>(w: &mut [K], f: K, by: &[K]) -> Result<(), RowFault>
-    ensures answer { λ r. ⌜ r ≡ done (less-row kind f (now (w .entry)) (now (by .entry))) ⌝ }
-    ensures made { λ _. ⌜ Leaves (less-row kind f (now (w .entry)) (now (by .entry))) (now (w .exit)) ⌝ }
-    ensures left { λ _. ⌜ now (w .exit) ≡ swept (less-op kind f (now (by .entry))) 0 (now (w .entry)) ⌝ }
-    ensures always { λ r. ⌜ (complete ≡ true → r ≡ Ok tt) ⌝ }
-{
-    let width = w.len().min(by.len());
-    for i in 0..width {
-        w[i] = at_column(i, w[i].less_times(f, by[i]))?;
-    }
-    Ok(())
-}
-
-// What `subtract` would answer.
+// Whether f times the row `by` can be taken from the row w, as far as both go.
 pub fn would_subtract<K: Number>(w: &[K], f: K, by: &[K]) -> Result<(), RowFault>
     ensures answer { λ r. ⌜ r ≡ done (less-row kind f (now (w .entry)) (now (by .entry))) ⌝ }
     ensures always { λ r. ⌜ (complete ≡ true → r ≡ Ok tt) ⌝ }
@@ -59,24 +54,7 @@ pub fn divide<K: Number>(w: &mut [K], f: K) -> Result<(), RowFault>
     Ok(())
 }
 
-// Makes the column s of the row w 0, by a row that is 1 there.
-pub fn clear_column<K: Number>(w: &mut [K], s: usize, by: &[K]) -> Result<(), RowFault>
-    ensures answer { λ r. ⌜ r ≡ done (cleared kind s (now (w .entry)) (now (by .entry))) ⌝ }
-    ensures made { λ _. ⌜ Leaves (cleared kind s (now (w .entry)) (now (by .entry))) (now (w .exit)) ⌝ }
-    ensures left { λ _. ⌜ now (w .exit) ≡ clear-swept kind s (now (w .entry)) (now (by .entry)) ⌝ }
-    ensures always { λ r. ⌜ (complete ≡ true → r ≡ Ok tt) ⌝ }
-{
-    if s >= w.len() {
-        return Ok(());
-    }
-    let f = w[s];
-    if f.is_zero() {
-        return Ok(());
-    }
-    subtract(w, f, by)
-}
-
-// What `clear_column` would answer.
+// Whether the column s of the row w can be made 0, by a row that is 1 there.
 pub fn would_clear_column<K: Number>(w: &[K], s: usize, by: &[K]) -> Result<(), RowFault>
     ensures answer { λ r. ⌜ r ≡ done (cleared kind s (now (w .entry)) (now (by .entry))) ⌝ }
     ensures always { λ r. ⌜ (complete ≡ true → r ≡ Ok tt) ⌝ }

@@ -43,7 +43,6 @@ returns-in-Break-go-forward g c =
       rest = refl;
     }
 
-
 pub subject-of-requires : need.subject-of-requires
 subject-of-requires g c κs =
     let size : length (c .args .w .now) ≡ wide (c .args .n) = ap length (c .pre .blank) ∙ length-replicate (wide (c .args .n)) (g .K·Number .kind .nil) in
@@ -86,7 +85,6 @@ returns-in-Break-hold g c =
       rest = ap (drop (used n)) kept;
     }
 
-
 pub spent-requires : need.spent-requires
 spent-requires g c κs =
     let size : length (c .args .w .now) ≡ wide (c .args .n) = ap length (c .pre .blank) ∙ length-replicate (wide (c .args .n)) (g .K·Number .kind .nil) in
@@ -119,7 +117,6 @@ returns-in-Continue-hold g c =
       records = sym (ap (λ v. records-after v (a .records .now)) end);
       rest = let u = used-all n (omega arith) in ap (λ i. drop i (c .hold .last .memory)) u ∙ c .hold .ensures .rest ∙ ap (λ i. drop i m) (sym u);
     }
-
 
 pub returns-in-None : need.returns-in-None
 returns-in-None g c =
