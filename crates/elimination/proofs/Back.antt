@@ -6,8 +6,8 @@ use native.Mathlib.Omega.{arith}
 use borrow.Rule.Slice.PartMut.{putMid}
 use lib.ListN.{length, getD, take, drop}
 use lib.Seq.{length-take-le, take-all, drop-drop}
-use Rattle.std.proofs.shelf.Lists.{take-more, drop-take}
-use Rattle.std.proofs.shelf.Parts.{take-putMid-below, drop-putMid, between-putMid}
+use Rattle.std.proofs.shelf.Lists.{take-more}
+use Rattle.std.proofs.shelf.Parts.{drop-putMid}
 use Rattle.std.specs.declared.result.Result.{Result}
 use Rattle.std.specs.declared.result.Result.the-variants.{Ok, Err}
 use Rattle.exact.specs.Kind.{Kind}
@@ -19,44 +19,9 @@ use Rattle.elimination.specs.declared.fault.Step.the-variants.{Back}
 use Rattle.elimination.specs.declared.fault.StepFault.{StepFault}
 use Rattle.elimination.specs.Held.{HeldLine, wide, needed, row-place, line-place, row-at, line-at, held-line, held-lines}
 use Rattle.elimination.specs.Steps.{located, then, back, with-row}
+use Rattle.elimination.proofs.Frames.{part-before, part-after, part-own, SameAt, held-same, held-more}
 use Rattle.elimination.proofs.Places.{row-next, row-line, row-fits, row-after}
 use Rattle.elimination.proofs.Walks.{here, later, lines-first, lines-end}
-
--- ---- a part of a memory after another was written
-module _ {V : Type 0} (a k : ℕ) (m v : List V) (fits : a + k ≤ length m) (long : length v ≡ k) where
-  pub part-before : (b w : ℕ) → b + w ≤ a → take w (drop b (putMid a k m v)) ≡ take w (drop b m)
-  part-before b w h =
-      sym (drop-take b w (putMid a k m v)) ∙ ap (drop b) (take-putMid-below a k m v (b + w) h (omega arith)) ∙ drop-take b w m
-
-  pub part-after : (b w : ℕ) → a + k ≤ b → take w (drop b (putMid a k m v)) ≡ take w (drop b m)
-  part-after b w h = ap (take w) (drop-putMid a k m v b h (omega arith) long)
-
-  pub part-own : take k (drop a (putMid a k m v)) ≡ v
-  part-own = ap (λ i. take i (drop a (putMid a k m v))) e ∙ between-putMid a k m v (a + k) (omega arith) (long ∙ e)
-    where
-      e : k ≡ a + k - a
-      e = omega arith
-
--- ---- held lines over another memory
-module _ {V : Type 0} (n : ℕ) (m m′ : List V) where
-  abbrev pub SameAt : ℕ → Type 0
-  SameAt i = (row-at n m′ i ≡ row-at n m i) × (line-at n m′ i ≡ line-at n m i)
-
-  pub line-same : (j : ℕ) (e : Entry) → SameAt j → held-line n m′ j e ≡ held-line n m j e
-  unfolding held-line
-  line-same j e s = ap₂ (λ l r. record { label = e .label; subject = e .subject; line = l; row = r }) (s .1) (s .0)
-
-  pub held-same : (j : ℕ) (es : List Entry) → ((i : ℕ) → j ≤ i → i < j + length es → SameAt i) → held-lines n m′ j es ≡ held-lines n m j es
-  held-same j [] s = refl
-  held-same j (e ∷ es) s = ap₂ (λ h hs. h ∷ hs) (line-same j e (s j (omega arith) (omega arith))) (held-same (j + 1) es (λ i b c. s i (omega arith) (omega arith)))
-
-pub held-more : {V : Type 0} (n : ℕ) (m : List V) (j : ℕ) (es : List Entry) (e : Entry) → held-lines n m j (es ++ e ∷ []) ≡ held-lines n m j es ++ held-line n m (j + length es) e ∷ []
-held-more n m j [] e = ap (λ i. held-line n m i e ∷ []) (omega arith)
-held-more n m j (x ∷ es) e = ap (λ hs. held-line n m j x ∷ hs) (held-more n m (j + 1) es e ∙ ap (λ i. held-lines n m (j + 1) es ++ held-line n m i e ∷ []) (omega arith))
-
-pub held-length : {V : Type 0} (n : ℕ) (m : List V) (j : ℕ) (es : List Entry) → length (held-lines n m j es) ≡ length es
-held-length n m j [] = refl
-held-length n m j (e ∷ es) = ap suc (held-length n m (j + 1) es)
 
 -- ---- the walk
 abbrev before : {V : Type 0} → List (HeldLine V) → Result (List (HeldLine V)) StepFault → Result (List (HeldLine V)) StepFault

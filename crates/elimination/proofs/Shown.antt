@@ -1,22 +1,28 @@
 -- What a ledger shows over a memory.
-use mathlib.Core.Path.{_≡_, refl, sym, ap, subst, _∙_}
+use mathlib.Core.Path.{_≡_, refl, sym, ap, ap₂, subst, _∙_}
 use mathlib.Core.Bool.{Bool, true, false, cond}
-use mathlib.Core.List.{List, [], _∷_, _++_}
+use mathlib.Core.List.{List, [], _∷_, _++_, map}
 use Prim.Native.Nat.{ℕ, zero, suc, _+_, _<_, _≤_}
 use native.Mathlib.Omega.{arith}
 use lib.Dec.{leb, ltb}
+use lib.IntN.{ℤ}
 use lib.ListN.{length}
 use lib.Seq.{length-take-le}
 use Rattle.std.specs.declared.result.Result.{Result}
 use Rattle.std.specs.declared.result.Result.the-variants.{Ok, Err}
+use Rattle.exact.specs.Kind.{Kind}
+use Rattle.exact.specs.Answers.{value-of}
+use Rattle.ledger.specs.declared.entry.Entry.{Entry}
 use Rattle.ledger.specs.declared.ledger.Ledger.{Ledger}
 use Rattle.ledger.specs.Listed.{Listed, listed, holding, may-hold}
 use Rattle.elimination.specs.declared.course.Course.{Course}
 use Rattle.elimination.specs.declared.course.Course.the-variants.{Follows, Taken}
 use Rattle.elimination.specs.declared.fault.SheetFault.{SheetFault}
 use Rattle.elimination.specs.Held.{needed, used, fits, size-in, entries-in, held-lines, held-in}
-use Rattle.elimination.specs.Stating.{course, Proper, Holdable, Stands, Listed-after}
-use Rattle.elimination.specs.Steps.{Verdict, refused, follows, clash, taken}
+use Rattle.elimination.specs.Refusals.{refusal}
+use Rattle.elimination.specs.Stating.{unless, stating, course, Proper, Holdable, entered, entries-after}
+use Rattle.elimination.specs.Steps.{Verdict, refused, follows, clash, taken, steps}
+use Rattle.elimination.proofs.Frames.{held-length}
 use Rattle.elimination.proofs.Tests.{at-most, above, less}
 
 -- a ledger keeps to its size
@@ -46,16 +52,40 @@ module _ (l : Listed) (have : ℕ) where
   holdable (Ok Follows) p = tt
   holdable (Ok (Taken q)) p = in-fit (fits l have) q (p .0) (p .1)
 
+-- the held lines after a verdict, as the ledger then shows them
 module _ {V : Type 0} (l : Listed) (m m′ : List V) (same : length m′ ≡ length m) (label : ℕ) where
-  with-fit : (b : Bool) → fits l (length m) ≡ b → (q : ℕ) (hs : List _) → held-lines (cond b (l .n) 0) m′ 0 (cond b (l .entries) [] ++ record { label = label; subject = q } ∷ []) ≡ hs → 0 < cond b (l .n) 0 → held-in (holding label q l) m′ ≡ hs
+  still : held-lines (size-in l (length m)) m′ 0 (entries-in l (length m)) ≡ held-in l m′
   unfolding held-in
-  with-fit true e q hs s p =
-      ap (λ b. held-lines (cond b (l .n) 0) m′ 0 (cond b (l .entries ++ record { label = label; subject = q } ∷ []) [])) (ap (leb (needed (l .n))) same ∙ e) ∙ s
-  with-fit false e q hs s p = absurd (omega arith)
+  still = ap (λ k. held-lines (size-in l k) m′ 0 (entries-in l k)) (sym same)
 
-  -- the memory has the held lines of the verdict, as the ledger with the line entered shows them
-  pub listed-after : (v : Verdict V) → Proper (size-in l (length m)) (length (entries-in l (length m))) (course v) → Stands v (size-in l (length m)) label (entries-in l (length m)) m m′ → Listed-after v label l m m′
-  listed-after (refused f) p s = s
-  listed-after follows p s = s
-  listed-after (clash rs) p s = s
-  listed-after (taken q hs) p s = with-fit (fits l (length m)) refl q hs s (let b = p .0 in omega arith)
+  with-fit : (b : Bool) → fits l (length m) ≡ b → (q : ℕ) → 0 < cond b (l .n) 0 → held-lines (cond b (l .n) 0) m′ 0 (cond b (l .entries) [] ++ record { label = label; subject = q } ∷ []) ≡ held-in (holding label q l) m′
+  unfolding held-in
+  with-fit true e q p =
+      sym (ap (λ b. held-lines (cond b (l .n) 0) m′ 0 (cond b (l .entries ++ record { label = label; subject = q } ∷ []) [])) (ap (leb (needed (l .n))) same ∙ e))
+  with-fit false e q p = absurd (omega arith)
+
+  pub entered-shows : (v : Verdict V) → Proper (size-in l (length m)) (length (entries-in l (length m))) (course v) → held-in (entered v label l) m′ ≡ held-lines (size-in l (length m)) m′ 0 (entries-after v label (entries-in l (length m)))
+  entered-shows (refused f) p = sym still
+  entered-shows follows p = sym still
+  entered-shows (clash rs) p = sym still
+  entered-shows (taken q hs) p = sym (with-fit (fits l (length m)) refl q (let b = p .0 in omega arith))
+
+-- ---- the verdict, by the size and the entries that were found
+module _ {V : Type 0} (K : Kind V) (l : Listed) (m : List V) (line : List ℤ) (label room n : ℕ) (es : List Entry) (size : n ≡ size-in l (length m)) (entries : es ≡ entries-in l (length m)) where
+  pub held-is : held-lines n m 0 es ≡ held-in l m
+  unfolding held-in
+  held-is = ap₂ (λ k xs. held-lines k m 0 xs) size entries
+
+  refusal-is : refusal (size-in l (length m)) (length (held-in l m)) line label room ≡ refusal n (length es) line label room
+  refusal-is = ap₂ (λ k h. refusal k h line label room) (sym size) (ap length (sym held-is) ∙ held-length n m 0 es)
+
+  abbrev pub verdict : Verdict V
+  verdict = stating K (size-in l (length m)) (held-in l m) line label room
+
+  pub verdict-refused : (f : SheetFault) → refusal n (length es) line label room ≡ Err f → verdict ≡ refused f
+  verdict-refused f e = ap (λ r. unless r (steps K (size-in l (length m)) (held-in l m) label (map (value-of K) line))) (refusal-is ∙ e)
+
+  pub verdict-steps : refusal n (length es) line label room ≡ Ok tt → verdict ≡ steps K n (held-lines n m 0 es) label (map (value-of K) line)
+  verdict-steps e =
+      ap (λ r. unless r (steps K (size-in l (length m)) (held-in l m) label (map (value-of K) line))) (refusal-is ∙ e)
+      ∙ ap₂ (λ k hs. steps K k hs label (map (value-of K) line)) (sym size) (sym held-is)

@@ -7,7 +7,7 @@ use Rattle.std.specs.declared.result.Result.the-variants.{Ok, Err}
 use Rattle.exact.specs.Kind.{Kind}
 use Rattle.ledger.specs.declared.entry.Entry.{Entry}
 use Rattle.elimination.specs.declared.fault.StepFault.{StepFault}
-use Rattle.elimination.specs.Held.{HeldLine}
+use Rattle.elimination.specs.Held.{HeldLine, held-lines}
 use Rattle.elimination.specs.Stating.{Holds}
 use Rattle.elimination.specs.Steps.{then, divided, back, rows-after, holding}
 
@@ -26,8 +26,8 @@ module _ {V : Type 0} (K : Kind V) (q : ℕ) (hs : List (HeldLine V)) (w : List 
     both-made others d = ap (λ r. then r (rows-after K q hs)) e ∙ ap (λ r. then r (λ others. Ok (v, others))) d
 
 module _ {V : Type 0} (r : Result (List V × List (HeldLine V)) StepFault) (n : ℕ) (es : List Entry) (line m : List V) where
-  pub nothing-held : (f : StepFault) → r ≡ Err f → Holds r n es line m m
-  nothing-held f e = subst (λ x. Holds x n es line m m) (sym e) refl
+  pub nothing-held : (f : StepFault) → r ≡ Err f → (m′ : List V) → held-lines n m′ 0 es ≡ held-lines n m 0 es → Holds r n es line m m′
+  nothing-held f e m′ h = subst (λ x. Holds x n es line m m′) (sym e) h
 
   pub line-held : (rows : List V × List (HeldLine V)) → r ≡ Ok rows → (m′ : List V) → Holds (Ok rows) n es line m m′ → Holds r n es line m m′
   line-held rows e m′ h = subst (λ x. Holds x n es line m m′) (sym e) h

@@ -16,7 +16,7 @@ use Rattle.elimination.specs.Held.{held-line, held-lines}
 use Rattle.elimination.specs.Stating.{over-written}
 use Rattle.elimination.specs.Steps.{one, named, evidence}
 use Rattle.elimination.proofs.Walks.{later, lines-first, lines-end}
-use Rattle.elimination.proofs.Back.{held-length}
+use Rattle.elimination.proofs.Frames.{held-length}
 
 module _ {V : Type 0} (K : Kind V) (n : ℕ) (w : List V) (es : List Entry) where
   -- of the places below j all that count are told, in the first records; the others are as they were

@@ -1,6 +1,7 @@
 -- The held lines as they lie in memory: n + 1 places of 2 n + 1 numbers for the rows, then n places of n + 1 numbers for the lines.
 use mathlib.Core.Bool.{Bool, true, false, cond}
 use mathlib.Core.List.{List, [], _∷_}
+use mathlib.Core.Path.{_≡_}
 use Prim.Native.Nat.{ℕ, zero, suc, _+_, _*_, _≤_}
 use lib.Dec.{leb}
 use lib.ListN.{length, take, drop}
@@ -46,6 +47,15 @@ held-line n m j e = record { label = e .label; subject = e .subject; line = line
 abbrev pub held-lines : {V : Type 0} → (n : ℕ) → List V → (j : ℕ) → List Entry → List (HeldLine V)
 held-lines n m j [] = []
 held-lines n m j (e ∷ es) = held-line n m j e ∷ held-lines n m (j + 1) es
+
+-- nothing but the row of the place j has changed
+pub record OnlyRow {V : Type 0} (n j : ℕ) (m m′ : List V) : Type 0 where
+  pub before : take (row-place n j) m′ ≡ take (row-place n j) m
+  pub after : drop (row-place n j + wide n) m′ ≡ drop (row-place n j + wide n) m
+
+-- the rows of the places up to j, and the lines of those before it, are as they were
+abbrev pub OtherLines : {V : Type 0} → (n j : ℕ) → List V → List V → Type 0
+OtherLines n j m m′ = take (line-place n j) m′ ≡ take (line-place n j) m
 
 -- a ledger over a memory: without the memory that its n needs it counts as one with no set point
 abbrev pub fits : Listed → ℕ → Bool

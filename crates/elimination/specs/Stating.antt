@@ -54,11 +54,24 @@ records-after follows old = old
 records-after (clash rs) old = over-written rs old
 records-after (taken q hs) old = old
 
--- ---- what the parts of it promise
--- a line is written with its row, after the others with theirs; or nothing is written
+-- the ledger after it
+abbrev pub entered : {V : Type 0} → Verdict V → (label : ℕ) → Listed → Listed
+entered (refused f) label l = l
+entered follows label l = l
+entered (clash rs) label l = l
+entered (taken q hs) label l = holding label q l
+
+-- the ledger has a place for a line that is taken
+abbrev pub Holdable : Listed → Result Course SheetFault → Type 0
+Holdable l (Err f) = Unit {0}
+Holdable l (Ok Follows) = Unit {0}
+Holdable l (Ok (Taken q)) = may-hold q l ≡ true
+
+-- ---- what the parts of it promise, over the entries that a ledger shows
+-- a line is written with its row, after the others with theirs; or the others are as they were
 abbrev pub Holds : {V : Type 0} → Result (List V × List (HeldLine V)) StepFault → (n : ℕ) → List Entry → List V → List V → List V → Type 0
 Holds (Ok rows) n es line m m′ = (held-lines n m′ 0 es ≡ rows .1) × (row-at n m′ (length es) ≡ rows .0) × (line-at n m′ (length es) ≡ line)
-Holds (Err f) n es line m m′ = m′ ≡ m
+Holds (Err f) n es line m m′ = held-lines n m′ 0 es ≡ held-lines n m 0 es
 
 -- a subject is a set point, and there is a place for the line
 abbrev pub Found : (n h : ℕ) → Option ℕ → Type 0
@@ -70,22 +83,8 @@ Proper n h (Err f) = Unit {0}
 Proper n h (Ok Follows) = Unit {0}
 Proper n h (Ok (Taken q)) = (q < n) × (h < n)
 
--- the memory is as it was, or has the held lines of the verdict
-abbrev pub Stands : {V : Type 0} → Verdict V → (n label : ℕ) → List Entry → List V → List V → Type 0
-Stands (refused f) n label es m m′ = m′ ≡ m
-Stands follows n label es m m′ = m′ ≡ m
-Stands (clash rs) n label es m m′ = m′ ≡ m
-Stands (taken q hs) n label es m m′ = held-lines n m′ 0 (es ++ record { label = label; subject = q } ∷ []) ≡ hs
-
--- the same of a ledger over the memory
-abbrev pub Listed-after : {V : Type 0} → Verdict V → (label : ℕ) → Listed → List V → List V → Type 0
-Listed-after (refused f) label l m m′ = m′ ≡ m
-Listed-after follows label l m m′ = m′ ≡ m
-Listed-after (clash rs) label l m m′ = m′ ≡ m
-Listed-after (taken q hs) label l m m′ = held-in (holding label q l) m′ ≡ hs
-
--- the ledger has a place for a line that is taken
-abbrev pub Holdable : Listed → Result Course SheetFault → Type 0
-Holdable l (Err f) = Unit {0}
-Holdable l (Ok Follows) = Unit {0}
-Holdable l (Ok (Taken q)) = may-hold q l ≡ true
+abbrev pub entries-after : {V : Type 0} → Verdict V → (label : ℕ) → List Entry → List Entry
+entries-after (refused f) label es = es
+entries-after follows label es = es
+entries-after (clash rs) label es = es
+entries-after (taken q hs) label es = es ++ record { label = label; subject = q } ∷ []

@@ -1,16 +1,17 @@
 ghost use mathlib.Core.Path.{_≡_};
 ghost use mathlib.Core.Bool.{true};
-ghost use mathlib.Core.List.{List, map};
+ghost use mathlib.Core.List.{List, [], map};
 ghost use Prim.Native.Nat.{ℕ, _+_, _<_, _≤_};
-ghost use lib.ListN.{length, drop, replicate};
+ghost use lib.IntN.{pos, natAbs};
+ghost use lib.ListN.{length, drop, getD};
 ghost use Rattle.std.specs.declared.option.Option.the-variants.{None};
 ghost use Rattle.std.specs.declared.result.Result.the-variants.{Err};
 ghost use Rattle.exact.specs.Answers.{value-of};
 ghost use Rattle.ledger.specs.Listed.{listed};
-ghost use Rattle.elimination.specs.Held.{wide, needed, used, row-place, held-lines, size-in, entries-in, held-in};
+ghost use Rattle.elimination.specs.Held.{wide, needed, used, held-lines, size-in, entries-in, held-in};
 ghost use Rattle.elimination.specs.Refusals.{Passes};
-ghost use Rattle.elimination.specs.Steps.{opening, subject, judged, reduced, forward, steps};
-ghost use Rattle.elimination.specs.Stating.{stating, course, records-after, Found, Proper, Stands, Holdable, Listed-after};
+ghost use Rattle.elimination.specs.Steps.{opening, subject, judged, steps};
+ghost use Rattle.elimination.specs.Stating.{stating, course, held-after, records-after, entered, Holdable, Found, Proper, entries-after};
 ghost use Rattle.elimination.specs.declared.fault.StepFault.{StepFault as StepFaultOf};
 ghost use Rattle.elimination.specs.declared.fault.SheetFault.the-variants.{Numbers};
 use crate::clash::tell_clash;
@@ -26,17 +27,23 @@ use exact::value::value_of;
 use exact::value::zero;
 use ledger::entry::Entry;
 use ledger::ledger::Ledger;
+use rows::row::fill;
 use rows::row::highest_nonzero;
 use rows::row::load;
 
 // The working row of a line that would be held at the place h.
-fn set_up<K: Number>(w: &mut [K], n: usize, h: usize, line: &[K])
+fn set_up<K: Number>(w: &mut [K], n: usize, h: usize, line: &[i32])
     requires few { ⌜ n ≤ 48 ⌝ }
-    requires blank { ⌜ now w ≡ replicate (wide n) (kind .nil) ⌝ }
+    requires width { ⌜ length (now w) ≡ wide n ⌝ }
     requires long { ⌜ length (now line) ≡ n + 1 ⌝ }
-    ensures { λ _. ⌜ now (w .exit) ≡ opening kind n h (now (line .entry)) ⌝ }
+    requires small { ⌜ ((u : ℕ) → u < length (now line) → natAbs (getD (now line) u (pos 0)) ≤ 1000000) ⌝ }
+    ensures { λ _. ⌜ now (w .exit) ≡ opening kind n h (map (value-of kind) (now (line .entry))) ⌝ }
 {
-    w[0..n + 1].copy_from_slice(line);
+    fill(w, zero());
+    match load(&mut w[0..n + 1], line) {
+        Ok(()) => {}
+        Err(_) => unreachable(),
+    }
     if h < n {
         w[n + 1 + h] = value_of(1);
     }
@@ -78,76 +85,60 @@ fn spent<K: Number>(
     Err(SheetFault::Clash { count })
 }
 
-// All the steps over a line, in the row w.
+// All the steps over a line, for a sheet with set points.
 fn advance<K: Number>(
-    w: &mut [K],
+    memory: &mut [K],
     n: usize,
     entries: &[Entry],
-    memory: &mut [K],
-    line: &[K],
-    label: u32,
-    records: &mut [Record<K>],
-) -> Result<Course, SheetFault>
-    requires few { ⌜ n ≤ 48 ⌝ }
-    requires blank { ⌜ now w ≡ replicate (wide n) (kind .nil) ⌝ }
-    requires held { ⌜ length (now entries) ≤ n ⌝ }
-    requires room { ⌜ used n ≤ length (now memory) ⌝ }
-    requires long { ⌜ length (now line) ≡ n + 1 ⌝ }
-    requires records { ⌜ length (now entries) < length (now records) ⌝ }
-    ensures answer { λ r. ⌜ r ≡ course (steps kind n (held-lines n (now (memory .entry)) 0 (now (entries .entry))) label (now (line .entry))) ⌝ }
-    ensures proper { λ r. ⌜ Proper n (length (now (entries .entry))) r ⌝ }
-    ensures stands { λ _. ⌜ Stands (steps kind n (held-lines n (now (memory .entry)) 0 (now (entries .entry))) label (now (line .entry))) n label (now (entries .entry)) (now (memory .entry)) (now (memory .exit)) ⌝ }
-    ensures records { λ _. ⌜ now (records .exit) ≡ records-after (steps kind n (held-lines n (now (memory .entry)) 0 (now (entries .entry))) label (now (line .entry))) (now (records .entry)) ⌝ }
-    ensures rest { λ _. ⌜ drop (used n) (now (memory .exit)) ≡ drop (used n) (now (memory .entry)) ⌝ }
-{
-    let h = entries.len();
-    set_up(w, n, h, line);
-    go_forward(w, n, entries, memory)?;
-    match subject_of(w, n, h) {
-        Some(q) => {
-            hold(w, n, entries, memory, line, q)?;
-            Ok(Course::Taken { subject: q })
-        }
-        None => spent(w, n, entries, label, records),
-    }
-}
-
-// Loads a line that is not refused and goes through its steps, in blank numbers for the line and for its row.
-fn begin<K: Number>(
-    values: &mut [K],
-    row: &mut [K],
-    n: usize,
-    entries: &[Entry],
-    memory: &mut [K],
     line: &[i32],
     label: u32,
     records: &mut [Record<K>],
 ) -> Result<Course, SheetFault>
     requires few { ⌜ n ≤ 48 ⌝ }
-    requires values { ⌜ now values ≡ replicate 49 (kind .nil) ⌝ }
-    requires row { ⌜ now row ≡ replicate 97 (kind .nil) ⌝ }
     requires held { ⌜ length (now entries) ≤ n ⌝ }
-    requires room { ⌜ used n ≤ length (now memory) ⌝ }
+    requires room { ⌜ needed n ≤ length (now memory) ⌝ }
     requires passes { ⌜ Passes n (length (now entries)) (now line) (length (now records)) ⌝ }
     ensures answer { λ r. ⌜ r ≡ course (steps kind n (held-lines n (now (memory .entry)) 0 (now (entries .entry))) label (map (value-of kind) (now (line .entry)))) ⌝ }
     ensures proper { λ r. ⌜ Proper n (length (now (entries .entry))) r ⌝ }
-    ensures stands { λ _. ⌜ Stands (steps kind n (held-lines n (now (memory .entry)) 0 (now (entries .entry))) label (map (value-of kind) (now (line .entry)))) n label (now (entries .entry)) (now (memory .entry)) (now (memory .exit)) ⌝ }
+    ensures held { λ _. ⌜ held-lines n (now (memory .exit)) 0 (entries-after (steps kind n (held-lines n (now (memory .entry)) 0 (now (entries .entry))) label (map (value-of kind) (now (line .entry)))) label (now (entries .entry))) ≡ held-after (steps kind n (held-lines n (now (memory .entry)) 0 (now (entries .entry))) label (map (value-of kind) (now (line .entry)))) (held-lines n (now (memory .entry)) 0 (now (entries .entry))) ⌝ }
     ensures records { λ _. ⌜ now (records .exit) ≡ records-after (steps kind n (held-lines n (now (memory .entry)) 0 (now (entries .entry))) label (map (value-of kind) (now (line .entry)))) (now (records .entry)) ⌝ }
-    ensures rest { λ _. ⌜ drop (used n) (now (memory .exit)) ≡ drop (used n) (now (memory .entry)) ⌝ }
+    ensures rest { λ _. ⌜ drop (needed n) (now (memory .exit)) ≡ drop (needed n) (now (memory .entry)) ⌝ }
 {
-    match load(&mut values[0..n + 1], line) {
-        Ok(()) => {}
-        Err(_) => unreachable(),
+    let h = entries.len();
+    let width = 2 * n + 1;
+    let at = h * width;
+    set_up(&mut memory[at..at + width], n, h, line);
+    go_forward(memory, n, entries)?;
+    match subject_of(&memory[at..at + width], n, h) {
+        Some(q) => {
+            hold(memory, n, entries, line, q)?;
+            Ok(Course::Taken { subject: q })
+        }
+        None => spent(&memory[at..at + width], n, entries, label, records),
     }
-    advance(
-        &mut row[0..2 * n + 1],
-        n,
-        entries,
-        memory,
-        &values[0..n + 1],
+}
+
+// A line on a sheet with no set point, which uses no memory: it says 0 = c.
+fn bare<K: Number>(
+    line: &[i32],
+    label: u32,
+    records: &mut [Record<K>],
+) -> Result<Course, SheetFault>
+    requires { ⌜ Passes 0 0 (now line) (length (now records)) ⌝ }
+    ensures answer { λ r. ⌜ r ≡ course (steps kind 0 [] label (map (value-of kind) (now (line .entry)))) ⌝ }
+    ensures proper { λ r. ⌜ Proper 0 0 r ⌝ }
+    ensures records { λ _. ⌜ now (records .exit) ≡ records-after (steps kind 0 [] label (map (value-of kind) (now (line .entry)))) (now (records .entry)) ⌝ }
+{
+    let constant: K = value_of(line[0]);
+    if constant.is_zero() {
+        return Ok(Course::Follows);
+    }
+    records[0] = Record {
+        place: 1,
         label,
-        records,
-    )
+        multiplier: value_of(1),
+    };
+    Err(SheetFault::Clash { count: 1 })
 }
 
 // The set points and entries that a ledger shows over so much memory: none where the memory does not do for them.
@@ -176,24 +167,15 @@ pub fn state_line<K: Number>(
 ) -> Result<Course, SheetFault>
     ensures answer { λ r. ⌜ r ≡ course (stating kind (size-in (listed (now (ledger .entry))) (length (now (memory .entry)))) (held-in (listed (now (ledger .entry))) (now (memory .entry))) (now (line .entry)) label (length (now (records .entry)))) ⌝ }
     ensures proper { λ r. ⌜ Holdable (listed (now (ledger .entry))) r ⌝ }
-    ensures held { λ _. ⌜ Listed-after (stating kind (size-in (listed (now (ledger .entry))) (length (now (memory .entry)))) (held-in (listed (now (ledger .entry))) (now (memory .entry))) (now (line .entry)) label (length (now (records .entry)))) label (listed (now (ledger .entry))) (now (memory .entry)) (now (memory .exit)) ⌝ }
+    ensures held { λ _. ⌜ held-in (entered (stating kind (size-in (listed (now (ledger .entry))) (length (now (memory .entry)))) (held-in (listed (now (ledger .entry))) (now (memory .entry))) (now (line .entry)) label (length (now (records .entry)))) label (listed (now (ledger .entry)))) (now (memory .exit)) ≡ held-after (stating kind (size-in (listed (now (ledger .entry))) (length (now (memory .entry)))) (held-in (listed (now (ledger .entry))) (now (memory .entry))) (now (line .entry)) label (length (now (records .entry)))) (held-in (listed (now (ledger .entry))) (now (memory .entry))) ⌝ }
     ensures records { λ _. ⌜ now (records .exit) ≡ records-after (stating kind (size-in (listed (now (ledger .entry))) (length (now (memory .entry)))) (held-in (listed (now (ledger .entry))) (now (memory .entry))) (now (line .entry)) label (length (now (records .entry)))) (now (records .entry)) ⌝ }
     ensures rest { λ _. ⌜ drop (used (size-in (listed (now (ledger .entry))) (length (now (memory .entry))))) (now (memory .exit)) ≡ drop (used (size-in (listed (now (ledger .entry))) (length (now (memory .entry))))) (now (memory .entry)) ⌝ }
     ensures always { λ r. ⌜ (complete ≡ true → (f : StepFaultOf) → r ≡ Err (Numbers f) → ⊥) ⌝ }
 {
     let (n, entries) = fitting(ledger, memory.len());
     pass(n, entries.len(), line, label, records.len())?;
-    let blank: K = zero();
-    let mut values = [blank; 49];
-    let mut row = [blank; 97];
-    begin(
-        &mut values,
-        &mut row,
-        n,
-        entries,
-        memory,
-        line,
-        label,
-        records,
-    )
+    if n == 0 {
+        return bare(line, label, records);
+    }
+    advance(memory, n, entries, line, label, records)
 }

@@ -7,11 +7,13 @@ use native.Mathlib.Omega.{arith}
 use lib.IntN.{ℤ, pos, natAbs}
 use lib.ListN.{length, getD, drop}
 use Rattle.std.proofs.shelf.Lists.{drop-more, drop-all}
+use Rattle.std.specs.declared.result.Result.{Result}
 use Rattle.std.specs.declared.result.Result.the-variants.{Ok, Err}
 use Rattle.exact.specs.Fraction.{Fraction}
 use Rattle.exact.specs.Kind.{Kind, Lawful}
 use Rattle.exact.specs.Answers.{whole-of, value-of}
 use Rattle.exact.proofs.Held.{whole-held}
+use Rattle.rows.specs.declared.fault.RowFault.{RowFault}
 use Rattle.rows.specs.Row.{placed, ahead, onto, by-column, whole-op, whole-row}
 use Rattle.rows.proofs.Ops.{whole-inside}
 
@@ -29,3 +31,6 @@ module _ {V : Type 0} {K : Kind V} {admits : Fraction → Type 0} {alike : Fract
   pub loaded : (w : List V) → length w ≡ length numbers → whole-row K numbers w ≡ Ok (map (value-of K) numbers)
   unfolding whole-row
   loaded w e = from 0 w (omega arith)
+
+pub no-row-fault : (f : RowFault) → _≡_ {A = Result Unit RowFault} (Err f) (Ok tt) → ⊥
+no-row-fault f e = let z : _≡_ {A = ℕ} 0 1 = cc in omega arith

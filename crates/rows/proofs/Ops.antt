@@ -18,8 +18,8 @@ use Rattle.exact.specs.Kind.{Kind, Lawful}
 use Rattle.exact.specs.Answers.{whole-of, less-of, over-of}
 use Rattle.exact.proofs.Held.{less-held, over-held}
 use Rattle.rows.specs.declared.fault.RowFault.{RowFault}
-use Rattle.rows.specs.Row.{at, done, by-column, less-swept, whole-op, less-op, over-op, less-row, over-row, cleared, clear-swept, highest}
-use Rattle.rows.proofs.Sweeps.{always}
+use Rattle.rows.specs.Row.{at, done, Leaves, by-column, less-swept, whole-op, less-op, over-op, less-row, over-row, cleared, clear-swept, highest}
+use Rattle.rows.proofs.Sweeps.{always, made-swept, swept-length}
 
 pub inside : (u m : ℕ) → u < m → ltb u m ≡ true
 inside u m h = go (ltb u m) (lt→ltb u m h)
@@ -82,6 +82,27 @@ module _ {V : Type 0} (K : Kind V) where
 
   pub highest-more : (w : List V) (i : ℕ) (x : V) → i < length w → x ≡ getD w i x → highest K (i + 1) w ≡ cond (K .isZero x) (highest K i w) (Some i)
   highest-more w i x h e = ap (λ n. highest K n w) (add-one i) ∙ ap (λ y. cond (K .isZero y) (highest K i w) (Some i)) (at-is w i x h e)
+
+  -- what clearing a column leaves
+  pub clear-length : (s : ℕ) (w r : List V) → length (clear-swept K s w r) ≡ length w
+  unfolding clear-swept less-swept
+  clear-length s w r = go (K .isZero (at K w s))
+    where
+      go : (b : Bool) → length (cond b w (less-swept K (at K w s) w r)) ≡ length w
+      go true = refl
+      go false = swept-length (less-op K (at K w s) r) 0 w
+
+  pub clear-leaves : (s : ℕ) (w r : List V) → Leaves (cleared K s w r) (clear-swept K s w r)
+  unfolding clear-swept less-swept cleared less-row
+  clear-leaves s w r = go (K .isZero (at K w s))
+    where
+      made : (m : Result (List V) RowFault) → by-column (less-op K (at K w s) r) 0 w ≡ m → Leaves m (less-swept K (at K w s) w r)
+      made (Ok v) e = made-swept (less-op K (at K w s) r) 0 w v e
+      made (Err f) e = tt
+
+      go : (b : Bool) → Leaves (cond b (Ok w) (less-row K (at K w s) w r)) (cond b w (less-swept K (at K w s) w r))
+      go true = refl
+      go false = made (less-row K (at K w s) w r) refl
 
 module _ {V : Type 0} {K : Kind V} {admits : Fraction → Type 0} {alike : Fraction → Fraction → Type 0} {complete : Bool} (laws : Lawful K admits alike complete) (all : complete ≡ true) where
   pub less-always : (f : V) (w r : List V) → done (less-row K f w r) ≡ Ok tt

@@ -1,7 +1,7 @@
 -- The turns of a loop that works through a row, column by column.
 use mathlib.Core.Path.{_≡_, refl, sym, ap, subst, _∙_}
 use mathlib.Core.List.{List, [], _∷_, _++_, append-assoc}
-use Prim.Native.Nat.{ℕ, _+_, _≤_, _<_, min}
+use Prim.Native.Nat.{ℕ, suc, _+_, _≤_, _<_, min}
 use native.Mathlib.Decide.{decLe}
 use native.Mathlib.Omega.{arith}
 use lib.ListN.{length, take, drop, getD, set, take-append-drop}
@@ -135,3 +135,11 @@ module _ {V : Type 0} (op : ℕ → V → Result V NumberFault) where
   always k i [] = refl
   always k i (x ∷ xs) =
       ap (λ o. done (onto (placed i o) (by-column op (i + 1) xs))) (k i x .1) ∙ done-ahead (k i x .0) (by-column op (i + 1) xs) ∙ always k (i + 1) xs
+
+  instead-length : (o : Result V NumberFault) (x : V) (xs rest : List V) → length rest ≡ length xs → length (instead o x xs rest) ≡ suc (length xs)
+  instead-length (Ok v) x xs rest e = ap suc e
+  instead-length (Err f) x xs rest e = refl
+
+  pub swept-length : (i : ℕ) (xs : List V) → length (swept op i xs) ≡ length xs
+  swept-length i [] = refl
+  swept-length i (x ∷ xs) = instead-length (op i x) x xs (swept op (i + 1) xs) (swept-length (i + 1) xs)
