@@ -5,12 +5,12 @@ use Prim.Native.Nat.{ℕ, zero, suc, _+_, _*_, _/_, _%_, _<_}
 use native.Mathlib.Decide.{ℕ-discrete}
 use native.Mathlib.Nat.{div-add-mod', mod-lt}
 use native.Mathlib.Omega.{arith}
-use lib.IntN.{ℤ, pos, negsuc, natAbs, _+ℤ_, _-ℤ_, _*ℤ_, negℤ, negℤ-negℤ, pos-ne-negsuc, *ℤ-zero, +ℤ-invr, +ℤ-idl}
+use lib.IntN.{ℤ, pos, negsuc, natAbs, _+ℤ_, _-ℤ_, _*ℤ_, negℤ, negℤ-negℤ, pos-ne-negsuc, *ℤ-zero}
 use Rattle.exact.specs.Fraction.{Fraction, Equal}
 use Rattle.exact.specs.Kind.{KindLaws}
 use Rattle.algebra.specs.Prime.{Prime, Admits, Alike, Nought, Multiple, Reciprocals}
 use Rattle.algebra.proofs.Solver.{Expr, var, :0, :1, _:+_, _:-_, _:*_, :neg, norm, solve}
-use Rattle.algebra.proofs.Integers.{integers}
+use Rattle.algebra.proofs.Integers.{integers, no-divisors, difference-zero, zero-difference}
 use Rattle.algebra.proofs.PrimeKind.{prime-laws, said-otherwise}
 
 abbrev v0 : Expr
@@ -25,16 +25,6 @@ v2 = var 2
 abbrev v3 : Expr
 v3 = var 3
 
--- a product is 0 only if a factor is
-pub no-divisors : (a b : ℤ) → a *ℤ b ≡ pos 0 → (a ≡ pos 0 → ⊥) → b ≡ pos 0
-no-divisors (pos zero) b e f = absurd (f refl)
-no-divisors (pos (suc a)) (pos zero) e f = refl
-no-divisors (pos (suc a)) (pos (suc b)) e f = let d : suc a * suc b ≡ 0 = ap natAbs e in absurd (omega arith)
-no-divisors (pos (suc a)) (negsuc b) e f = let d : suc a * suc b ≡ 0 = ap natAbs (sym (negℤ-negℤ (pos (suc a * suc b))) ∙ ap negℤ e) in absurd (omega arith)
-no-divisors (negsuc a) (pos zero) e f = refl
-no-divisors (negsuc a) (pos (suc b)) e f = let d : suc a * suc b ≡ 0 = ap natAbs (sym (negℤ-negℤ (pos (suc a * suc b))) ∙ ap negℤ e) in absurd (omega arith)
-no-divisors (negsuc a) (negsuc b) e f = let d : suc a * suc b ≡ 0 = ap natAbs e in absurd (omega arith)
-
 pub nought : Prime Nought
 nought = record {
   has-zero = refl;
@@ -44,12 +34,6 @@ nought = record {
   not-one = λ h. let d : 1 ≡ 0 = ap natAbs h in omega arith;
   prime = no-divisors;
 }
-
-pub difference-zero : (a b : ℤ) → a ≡ b → a -ℤ b ≡ pos 0
-difference-zero a b e = ap (λ z. z -ℤ b) e ∙ +ℤ-invr b
-
-pub zero-difference : (a b : ℤ) → a -ℤ b ≡ pos 0 → a ≡ b
-zero-difference a b e = solve integers (a ∷ b ∷ []) v0 (v0 :- v1 :+ v1) refl ∙ ap (λ z. z +ℤ b) e ∙ +ℤ-idl b
 
 -- equal fractions are those alike up to the ideal of 0
 pub ordinary-laws : KindLaws (Admits Nought) Equal
