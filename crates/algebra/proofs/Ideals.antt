@@ -1,15 +1,15 @@
 -- The ideal of 0 and that of the multiples of a number p are prime, the latter where all residues but 0 have reciprocals.
 use mathlib.Core.Path.{_≡_, refl, sym, _∙_, ap, ap₂}
-use mathlib.Core.List.{List, [], _∷_}
+use mathlib.Core.List.{[], _∷_}
 use Prim.Native.Nat.{ℕ, zero, suc, _+_, _*_, _/_, _%_, _<_}
 use native.Mathlib.Decide.{ℕ-discrete}
 use native.Mathlib.Nat.{div-add-mod', mod-lt}
 use native.Mathlib.Omega.{arith}
 use lib.IntN.{ℤ, pos, negsuc, natAbs, _+ℤ_, _-ℤ_, _*ℤ_, negℤ, negℤ-negℤ, pos-ne-negsuc, *ℤ-zero}
-use Rattle.exact.specs.Fraction.{Fraction, Equal}
+use Rattle.exact.specs.Fraction.{Equal}
 use Rattle.exact.specs.Kind.{KindLaws}
-use Rattle.algebra.specs.Prime.{Prime, Admits, Alike, Nought, Multiple, Reciprocals}
-use Rattle.algebra.proofs.Solver.{Expr, var, :0, :1, _:+_, _:-_, _:*_, :neg, norm, solve}
+use Rattle.algebra.specs.Prime.{Prime, Admits, Alike, Nought, Multiple}
+use Rattle.algebra.proofs.Solver.{Expr, var, :1, _:+_, _:-_, _:*_, :neg, solve}
 use Rattle.algebra.proofs.Integers.{integers, no-divisors, difference-zero, zero-difference}
 use Rattle.algebra.proofs.PrimeKind.{prime-laws, said-otherwise}
 

@@ -1,11 +1,11 @@
 -- The integers are a commutative ring without divisors of 0.
 use mathlib.Core.Path.{_≡_, refl, sym, _∙_, ap, ap₂}
-use mathlib.Core.List.{List, [], _∷_}
-use Prim.Native.Nat.{ℕ, zero, suc, _*_}
+use mathlib.Core.List.{[], _∷_}
+use Prim.Native.Nat.{zero, suc, _*_}
 use native.Mathlib.Omega.{arith}
 use lib.IntN.{ℤ, pos, negsuc, natAbs, sucℤ, predℤ, _+ℤ_, _-ℤ_, _*ℤ_, negℤ, sucℤ-+ℤ, predℤ-+ℤ, +ℤ-idl, +ℤ-idr, +ℤ-assoc, +ℤ-comm, +ℤ-invr, sucℤ-*ℤ, predℤ-*ℤ, zero-*ℤ, *ℤ-comm, *ℤ-one, negℤ-sucℤ, negℤ-predℤ, negℤ-+ℤ, negℤ-negℤ, one}
 use Rattle.algebra.specs.Ring.{Ring}
-use Rattle.algebra.proofs.Solver.{Expr, var, _:+_, _:-_, _:*_, solve}
+use Rattle.algebra.proofs.Solver.{var, _:+_, _:-_, _:*_, solve}
 
 ind : (P : ℤ → Type 0) → P (pos zero) → ((k : ℤ) → P k → P (sucℤ k)) → ((k : ℤ) → P k → P (predℤ k)) → (k : ℤ) → P k
 ind P z s p (pos zero) = z

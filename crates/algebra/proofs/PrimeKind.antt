@@ -1,8 +1,8 @@
 -- The fractions whose lower number is not in a prime ideal, told apart up to the ideal, are a number kind.
 use mathlib.Core.Path.{_≡_, refl, sym, _∙_, ap, subst}
 use mathlib.Core.List.{List, [], _∷_}
-use lib.IntN.{ℤ, pos, negsuc, _+ℤ_, _-ℤ_, _*ℤ_, negℤ, +ℤ-invr}
-use Rattle.exact.specs.Fraction.{Fraction, plus, times, opposite, turned, whole, Equal}
+use lib.IntN.{ℤ, pos, negsuc, _+ℤ_, _-ℤ_, _*ℤ_, +ℤ-invr}
+use Rattle.exact.specs.Fraction.{Fraction, plus, times, opposite, whole, Equal}
 use Rattle.exact.specs.Kind.{KindLaws}
 use Rattle.algebra.specs.Prime.{Prime, Admits, Alike}
 use Rattle.algebra.proofs.Solver.{Expr, var, :0, :1, _:+_, _:-_, _:*_, :neg, norm, solve, ⟦_⟧}

@@ -1,5 +1,5 @@
 -- A fraction over its greatest common divisor is in lowest terms, and lowest terms are the least.
-use mathlib.Core.Path.{_≡_, refl, sym, ap, subst, _∙_}
+use mathlib.Core.Path.{_≡_, sym, ap, subst, _∙_}
 use mathlib.Core.Logic.{∥∥₁-elim}
 use Prim.Native.Nat.{ℕ, zero, suc, _*_, _/_, _≤_, _<_, _∣_}
 use native.Mathlib.Omega.{arith}
@@ -7,7 +7,7 @@ use native.Mathlib.Nat.{div-mul-cancel, mul-dvd-mul-right, dvd-of-mul-dvd-mul-ri
 use native.Mathlib.Bridge.{le-prop}
 use Rattle.fractions.specs.Lowest.{OnlyOne}
 use Rattle.fractions.specs.Gcd.{gcd}
-use Rattle.fractions.specs.Divides.{Gcd, Apart, gcd-is, only-one-from-apart}
+use Rattle.fractions.specs.Divides.{Apart, gcd-is, only-one-from-apart}
 
 mul-cancel : (a b c : ℕ) → 0 < c → a * c ≡ b * c → a ≡ b
 mul-cancel a b c h e = sym (mul-div-cancel a h) ∙ ap (λ (t : ℕ). t / c) e ∙ mul-div-cancel b h

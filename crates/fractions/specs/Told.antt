@@ -1,7 +1,7 @@
 -- The value of a number tells it, and a number without a value is told by none.
-use mathlib.Core.Path.{_≡_, refl, sym, ap, subst, _∙_}
+use mathlib.Core.Path.{_≡_, refl, ap, _∙_}
 use mathlib.Core.Bool.{Bool, true, false, _&&_}
-use mathlib.Core.List.{List, [], _∷_}
+use mathlib.Core.List.{[], _∷_}
 use Prim.Native.Nat.{ℕ, zero, suc, _*_, _/_, _≤_, _<_}
 use native.Mathlib.Omega.{arith}
 use lib.Dec.{T, leb, le→leb}
@@ -17,8 +17,8 @@ use Rattle.fractions.specs.declared.ratio.Ratio.{Ratio}
 use Rattle.fractions.specs.Lowest.{limit}
 use Rattle.fractions.specs.Gcd.{gcd}
 use Rattle.fractions.specs.Reduced.{lower-positive, reduced-same, reduced-least}
-use Rattle.fractions.specs.Unique.{same-terms, sizes, not-zero, unique}
-use Rattle.fractions.specs.Value.{tells, negative, differ, signed, abs-signed, within, made, over, valueOf}
+use Rattle.fractions.specs.Unique.{sizes, not-zero, unique}
+use Rattle.fractions.specs.Value.{tells, negative, differ, signed, within, made, over, valueOf}
 
 abbrev pub Told : Fraction → Option Ratio → Type 0
 Told x (Some v) = Equal (tells v) x

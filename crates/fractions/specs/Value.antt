@@ -8,7 +8,6 @@ use lib.IntN.{ℤ, pos, negsuc, negℤ, natAbs}
 use Rattle.std.specs.declared.option.Option.{Option}
 use Rattle.std.specs.declared.option.Option.the-variants.{Some, None}
 use Rattle.exact.specs.Fraction.{Fraction, fraction}
-use Rattle.exact.specs.Kind.{Kind}
 use Rattle.fractions.specs.declared.ratio.Ratio.{Ratio}
 use Rattle.fractions.specs.Lowest.{limit, OnlyOne, LowestTerms}
 use Rattle.fractions.specs.Gcd.{gcd}

@@ -12,7 +12,7 @@ use Rattle.exact.specs.Kind.{Kind, Lawful}
 use Rattle.algebra.specs.Prime.{Admits, Alike, Multiple}
 use Rattle.residues.specs.declared.index.Index.{Index}
 use Rattle.residues.specs.Rest.{rest, reciprocal}
-use Rattle.residues.specs.Remainders.{all-reciprocal, each-reciprocal, rest-below}
+use Rattle.residues.specs.Remainders.{each-reciprocal, rest-below}
 use Rattle.residues.specs.Residue.{residue-kind}
 use Rattle.residues.specs.ResidueLaws.{Residues, residue-lawful}
 

@@ -11,7 +11,7 @@ use Rattle.algebra.specs.Prime.{Admits, Alike, Multiple}
 use Rattle.residues.specs.declared.parity.Parity.{Parity}
 use Rattle.residues.specs.declared.parity.Parity.the-variants.{Shut, Open}
 use Rattle.residues.specs.Rest.{rest, reciprocal}
-use Rattle.residues.specs.Remainders.{all-reciprocal, each-reciprocal, rest-below}
+use Rattle.residues.specs.Remainders.{each-reciprocal, rest-below}
 use Rattle.residues.specs.Residue.{residue-kind}
 use Rattle.residues.specs.ResidueLaws.{Residues, residue-lawful}
 

@@ -1,12 +1,12 @@
 -- Remainders keep the laws of a kind, by any modulus at which all but 0 have reciprocals.
 use mathlib.Core.Path.{_≡_, refl, sym, ap, subst, _∙_}
-use mathlib.Core.Bool.{Bool, true, false, cond}
-use mathlib.Core.List.{List, [], _∷_}
+use mathlib.Core.Bool.{true, false, cond}
+use mathlib.Core.List.{[], _∷_}
 use mathlib.Core.Logic.{inl}
 use Prim.Native.Nat.{ℕ, zero, suc, _*_, _%_, _<_}
 use native.Mathlib.Omega.{arith}
 use lib.Dec.{T, eqb, eqb→eq, eqb·suc-zero}
-use lib.IntN.{ℤ, pos, _+ℤ_, _-ℤ_, _*ℤ_, negℤ, *ℤ-comm}
+use lib.IntN.{ℤ, pos, _-ℤ_, _*ℤ_, *ℤ-comm}
 use Rattle.std.specs.declared.option.Option.{Option}
 use Rattle.std.specs.declared.option.Option.the-variants.{Some, None}
 use Rattle.exact.specs.Fraction.{Fraction, whole, times, opposite, turned, less-times, ratio}

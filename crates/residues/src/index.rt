@@ -4,7 +4,7 @@ pub mod number;
 mod reciprocals;
 pub mod shown;
 
-// A position on a ring of 127 teeth: a number by its remainder by 127.
+// A number by its remainder by 127: a position on a ring of 127 teeth.
 #[derive(Clone, Copy, PartialEq, Eq, Debug)]
 pub struct Index {
     teeth: u8,

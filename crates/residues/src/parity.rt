@@ -1,7 +1,7 @@
 pub mod number;
 pub mod shown;
 
-// A valve that each turn opens or shuts: a number by its remainder by 2, 0 for shut.
+// A number by its remainder by 2: 0 is shut, 1 is open.
 #[derive(Clone, Copy, PartialEq, Eq, Debug)]
 pub enum Parity {
     Shut,

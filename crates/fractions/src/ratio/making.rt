@@ -1,5 +1,4 @@
 ghost use mathlib.Core.Path.{_≡_};
-ghost use mathlib.Core.Bool.{cond};
 ghost use Prim.Native.Nat.{_≤_};
 ghost use Rattle.fractions.specs.Lowest.{limit};
 ghost use Rattle.fractions.specs.Value.{signed};

@@ -1,6 +1,6 @@
 ghost use mathlib.Core.Path.{_≡_};
 ghost use mathlib.Core.Bool.{true};
-ghost use Rattle.residues.specs.ParityKind.{parity as parity-of, turned-over, parity-kind, parity-admits, parity-alike, parity-laws};
+ghost use Rattle.residues.specs.ParityKind.{turned-over, parity-kind, parity-admits, parity-alike, parity-laws};
 use super::Parity;
 use exact::fault::NumberFault;
 use exact::number::Number;

@@ -1,5 +1,5 @@
 use mathlib.Core.Path.{_≡_, refl, ap, ap₂, _∙_}
-use mathlib.Core.Bool.{Bool, not, Bool·beq}
+use mathlib.Core.Bool.{not, Bool·beq}
 use Prim.Native.Nat.{ℕ, _/_}
 use lib.IntN.{ℤ, pos, natAbs}
 use lib.Signed.{ltZ}

@@ -1,6 +1,6 @@
-use mathlib.Core.Path.{_≡_, refl, ap, ap₂, _∙_, sym, subst}
-use mathlib.Core.List.{List, [], _∷_}
-use Prim.Native.Nat.{ℕ, _*_, _≤_, _<_}
+use mathlib.Core.Path.{_≡_, refl, ap, ap₂, _∙_, sym}
+use mathlib.Core.List.{[], _∷_}
+use Prim.Native.Nat.{_*_}
 use native.Mathlib.Omega.{arith}
 use native.Mathlib.Nat.{mul-pos}
 use lib.IntN.{ℤ, pos, natAbs, negℤ, _*ℤ_, _+ℤ_, _-ℤ_}
@@ -9,12 +9,10 @@ use Rattle.std.proofs.shelf.Signed.{toZ-ofZ}
 use Rattle.algebra.proofs.Integers.{integers}
 use Rattle.algebra.proofs.Solver.{var, _:-_, _:+_, _:*_, :neg, solve}
 use Rattle.exact.specs.Answers.{less-of}
-use Rattle.exact.specs.Fraction.{less-times}
 use Rattle.fractions.specs.declared.ratio.Ratio.{Ratio}
 use Rattle.fractions.specs.Making.{new-of}
-use Rattle.fractions.specs.Value.{tells}
 use Rattle.fractions.proofs.Made.{new-nonzero}
-use Rattle.fractions.proofs.Wide.{Is, num-is, den-is, kept, times-fits, times-is, at-most}
+use Rattle.fractions.proofs.Wide.{num-is, den-is, kept, times-fits, times-is, at-most}
 use Rattle.fractions.proofs.ratio.number.RatioNumber.less_times.Needs as need
 
 pub times-below-requires : need.times-below-requires

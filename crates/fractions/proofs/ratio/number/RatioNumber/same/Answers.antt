@@ -1,7 +1,7 @@
-use mathlib.Core.Path.{_≡_, ap, _∙_, sym, subst}
+use mathlib.Core.Path.{ap, _∙_, sym, subst}
 use Prim.Native.Nat.{ℕ}
 use lib.Dec.{T, eqb, eqb→eq, eqb-refl}
-use lib.IntN.{ℤ, pos, _*ℤ_, *ℤ-comm}
+use lib.IntN.{pos, _*ℤ_, *ℤ-comm}
 use mir.Syntax.{w32}
 use mir.Val.{ofZ}
 use Rattle.fractions.specs.Unique.{same-dens, same-nums}

@@ -1,4 +1,4 @@
-use mathlib.Core.Path.{_≡_, ap, sym, _∙_}
+use mathlib.Core.Path.{ap, sym, _∙_}
 use Rattle.exact.specs.Answers.{over-of}
 use Rattle.residues.specs.ParityKind.{parity-kind}
 use Rattle.residues.proofs.Parities.{over-open, over-shut}
