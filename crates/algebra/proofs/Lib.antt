@@ -1,0 +1,4 @@
+pub mod Solver
+pub mod Integers
+pub mod PrimeKind
+pub mod Ideals

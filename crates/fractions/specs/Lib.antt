@@ -1,0 +1,10 @@
+pub mod Divides
+pub mod Example
+pub mod Gcd
+pub mod Laws
+pub mod Lowest
+pub mod Making
+pub mod Reduced
+pub mod Told
+pub mod Unique
+pub mod Value
