@@ -142,7 +142,7 @@ fn bare<K: Number>(
 }
 
 // The set points and entries that a ledger shows over so much memory: none where the memory does not do for them.
-fn fitting(ledger: &Ledger, have: usize) -> (usize, &[Entry])
+pub fn fitting(ledger: &Ledger, have: usize) -> (usize, &[Entry])
     ensures size { λ r. ⌜ r .0 ≡ size-in (listed (now (ledger .entry))) have ⌝ }
     ensures entries { λ r. ⌜ now (r .1) ≡ entries-in (listed (now (ledger .entry))) have ⌝ }
     ensures few { λ r. ⌜ r .0 ≤ 48 ⌝ }

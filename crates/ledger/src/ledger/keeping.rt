@@ -3,8 +3,7 @@ ghost use mathlib.Core.Bool.{cond};
 ghost use Rattle.ledger.specs.Listed.{listed, empty, holding, may-hold};
 use super::Ledger;
 use crate::entry::Entry;
-
-pub const MOST_SET_POINTS: usize = 48;
+use crate::limits::MOST_SET_POINTS;
 
 impl Ledger {
     // A ledger with no entry. More than 48 set points are none.
