@@ -1,0 +1,6 @@
+pub mod Form
+pub mod Marks
+pub mod Reading
+pub mod Sound
+pub mod Steps
+pub mod Terms
