@@ -1,0 +1,5 @@
+// The lines of an input, and its heading.
+pub mod heading;
+pub mod lines;
+pub mod read;
+mod take;
