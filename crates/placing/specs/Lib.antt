@@ -1,0 +1,5 @@
+pub mod Answers
+pub mod Columns
+pub mod Faults
+pub mod Numbers
+pub mod Terms

@@ -1,0 +1,7 @@
+// The numbers of a recipe line, and every fault of the text.
+mod check;
+pub mod column;
+pub mod fault;
+mod fill;
+pub mod numbers;
+pub mod raise;
