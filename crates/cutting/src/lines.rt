@@ -3,6 +3,7 @@ ghost use lib.ListN.{length};
 ghost use denote.Ref.{now};
 
 // The lines that are left of an input. `label` counts those before them; the heading is line 0.
+#[derive(Drop)]
 pub struct Lines<'a> {
     pub rest: &'a [u8],
     pub label: usize,

@@ -1,6 +1,8 @@
 ghost use mathlib.Core.Path.{_≡_};
+ghost use Prim.Native.Nat.{_≤_};
+ghost use lib.IntN.{natAbs};
 ghost use Rattle.reading.specs.Reading.{meaning-of};
-ghost use Rattle.placing.specs.Columns.{start, column, fault-placed};
+ghost use Rattle.placing.specs.Columns.{start, column, number-at, fault-placed};
 use crate::fault::TextFault;
 use elimination::fault::SheetFault;
 use reading::line::Line;
@@ -18,9 +20,10 @@ fn start_of(terms: &[Term], set_point: usize) -> usize
     0
 }
 
-// The column where the number at a position of the line over n set points begins, 0 where it has no digit.
+// The column where the number at a position of the line over n set points begins. One without a digit has none, 0, but is at most 1 either way.
 pub fn column_of(line: &Line, n: usize, position: usize) -> usize
-    ensures { λ r. ⌜ r ≡ column (meaning-of (now (line .entry))) n position ⌝ }
+    ensures is { λ r. ⌜ r ≡ column (meaning-of (now (line .entry))) n position ⌝ }
+    ensures digit { λ r. ⌜ (1 ≤ position → r ≡ 0 → natAbs (number-at (meaning-of (now (line .entry))) n position) ≤ 1) ⌝ }
 {
     if position > 0 && position - 1 == n {
         return line.start;

@@ -3,5 +3,6 @@ mod check;
 pub mod column;
 pub mod fault;
 mod fill;
+pub mod input;
 pub mod numbers;
 pub mod raise;

@@ -1,3 +1,4 @@
 pub mod Bounds
 pub mod Exact
 pub mod Loop
+pub mod Printed

@@ -7,7 +7,7 @@ use lib.ListN.{length, take, drop, set, getD, length-set}
 use lib.Seq.{getD-set-same, getD-set-other}
 use borrow.Author.Count.{below-more}
 use mathlib.Core.Logic.{_≢_}
-use Rattle.reading.specs.Terms.{none, at, Short}
+use Rattle.reading.specs.Terms.{none, at, Fair, Short, Digits}
 use Rattle.std.proofs.shelf.Lists.{drop-more, drop-all, take-more-set}
 use Rattle.reading.specs.declared.mark.Mark.{Mark}
 use Rattle.reading.specs.declared.term.Term.{Term}
@@ -29,7 +29,7 @@ pub record Sofar (text : List ℕ) (i : ℕ) (s : Stage) (n : ℕ) (ts : List Te
   pub few : n ≤ i
   pub whole : length ts ≡ 200
   pub sound : Sound s
-  pub short : Short ts n
+  pub fair : (k : ℕ) → k < n → Fair (at ts k)
 
 -- one byte on
 on : (text : List ℕ) (i : ℕ) (s : Stage) (done : List Term) (x : Mark) (mv : Move) → i < length text → x ≡ mark (getD text i 0) → mv ≡ move s (i + 1) x → onward mv (i + 1) done (λ s′ d. reading s′ (i + 1 + 1) d (drop (i + 1) text)) ≡ reading s (i + 1) done (drop i text)
@@ -38,14 +38,11 @@ on text i s done x mv h e q =
     ∙ sym (ap (reading s (i + 1) done) (drop-more text i 0 h))
 
 module _ {text : List ℕ} {i : ℕ} {s : Stage} {n : ℕ} {ts : List Term} (w : Sofar text i s n ts) (h : i < length text) (x : Mark) (e : x ≡ mark (getD text i 0)) where
-  one-more : (y : Term) → n < length ts → y .coefficient < 10000000 → Short (set ts n y) (n + 1)
+  one-more : (y : Term) → n < length ts → Fair y → (k : ℕ) → k < n + 1 → Fair (at (set ts n y) k)
   one-more y room g =
-      let f = w .few in
-      let l = w .whole in
-      let all = below-more (λ k. at (set ts n y) k .coefficient < 10000000) n
-      (λ k j. let ne : k ≢ n = omega arith in subst (λ t. t .coefficient < 10000000) (sym (getD-set-other ts n k y none ne)) (w .short (k, j)))
-      (subst (λ t. t .coefficient < 10000000) (sym (getD-set-same ts n y none room)) g) in
-      λ k. all (k .0) (k .1)
+      below-more (λ k. Fair (at (set ts n y) k)) n
+      (λ k j. let ne : k ≢ n = omega arith in subst Fair (sym (getD-set-other ts n k y none ne)) (w .fair k j))
+      (subst Fair (sym (getD-set-same ts n y none room)) g)
 
   pub go : (s₁ s′ : Stage) (n′ : ℕ) (ts′ : List Term) → Go s₁ ≡ move s (i + 1) x → Sound s₁ → s′ ≡ s₁ → n′ ≡ n → ts′ ≡ ts → Sofar text (i + 1) s′ n′ ts′
   go s₁ s′ n′ ts′ q k es en et =
@@ -55,10 +52,10 @@ module _ {text : List ℕ} {i : ℕ} {s : Stage} {n : ℕ} {ts : List Term} (w :
         few = omega arith;
         whole = ap length et ∙ w .whole;
         sound = rw es k;
-        short = rw (en, et) (w .short);
+        fair = rw (en, et) (w .fair);
       }
 
-  pub ends : (y : Term) (s₁ s′ : Stage) (n′ : ℕ) (ts′ : List Term) → Ends y s₁ ≡ move s (i + 1) x → Sound s₁ × (y .coefficient < 10000000) → length text ≤ 200 → s′ ≡ s₁ → n′ ≡ n + 1 → ts′ ≡ set ts n y → Sofar text (i + 1) s′ n′ ts′
+  pub ends : (y : Term) (s₁ s′ : Stage) (n′ : ℕ) (ts′ : List Term) → Ends y s₁ ≡ move s (i + 1) x → Sound s₁ × Fair y → length text ≤ 200 → s′ ≡ s₁ → n′ ≡ n + 1 → ts′ ≡ set ts n y → Sofar text (i + 1) s′ n′ ts′
   ends y s₁ s′ n′ ts′ q k short es en et =
       let f = w .few in
       let l = w .whole in
@@ -67,7 +64,7 @@ module _ {text : List ℕ} {i : ℕ} {s : Stage} {n : ℕ} {ts : List Term} (w :
         few = omega arith;
         whole = ap length et ∙ length-set ts n y ∙ l;
         sound = rw es (k .0);
-        short = rw (en, et) (one-more y (omega arith) (k .1));
+        fair = rw (en, et) (one-more y (omega arith) (k .1));
       }
 
   pub stop : Stop ≡ move s (i + 1) x → length text ≤ 200 → Reads text (stops (i + 1))
@@ -88,6 +85,12 @@ unfinished Right col done h = refl
 unfinished Negated col done h = refl
 unfinished (Constant s f) col done h = absurd (h s f refl)
 
--- the constant of a line that was read has at most seven digits
-pub small : {text : List ℕ} {i : ℕ} {s : Stage} {n : ℕ} {ts : List Term} → Sofar text i s n ts → (negative : Bool) (f : Figure) → s ≡ Constant negative f → f .value < 10000000
-small w negative f e = seven (f .value) (f .count) (subst Sound e (w .sound)) .0
+-- the numbers of a line that was read
+pub short : {text : List ℕ} {i : ℕ} {s : Stage} {n : ℕ} {ts : List Term} → Sofar text i s n ts → Short ts n
+short w k = w .fair (k .0) (k .1) .0
+
+pub begun : {text : List ℕ} {i : ℕ} {s : Stage} {n : ℕ} {ts : List Term} → Sofar text i s n ts → Digits ts n
+begun w k = w .fair (k .0) (k .1) .1 (k .2)
+
+pub small : {text : List ℕ} {i : ℕ} {s : Stage} {n : ℕ} {ts : List Term} → Sofar text i s n ts → (negative : Bool) (f : Figure) → s ≡ Constant negative f → (f .value < 10000000) × (1 ≤ f .start)
+small w negative f e = let b = subst Sound e (w .sound) in (seven (f .value) (f .count) (b .0) .0, b .1)

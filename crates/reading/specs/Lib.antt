@@ -1,3 +1,5 @@
+pub mod Back
+pub mod Examples
 pub mod Form
 pub mod Marks
 pub mod Reading

@@ -1,7 +1,7 @@
 ghost use mathlib.Core.Path.{_≡_};
 ghost use Prim.Native.Nat.{_<_, _≤_};
 ghost use lib.ListN.{length, take};
-ghost use Rattle.reading.specs.Terms.{Short};
+ghost use Rattle.reading.specs.Terms.{Short, Digits};
 use crate::term::Term;
 
 // A line of the form. Of its places for terms, which suffice for any text of 200 bytes, the first `count` are in use.
@@ -15,8 +15,11 @@ pub struct Line {
     pub start: usize,
     ghost places: { length terms ≡ 200 },
     ghost room: { count ≤ 200 },
+    // No number has more than seven digits, and a coefficient without a digit is 1.
     ghost short: { Short terms count },
+    ghost digits: { Digits terms count },
     ghost small: { constant < 10000000 },
+    ghost begins: { 1 ≤ start },
 }
 
 impl Line {

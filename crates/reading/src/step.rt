@@ -1,5 +1,5 @@
 ghost use mathlib.Core.Path.{_≡_};
-ghost use Prim.Native.Nat.{_+_, _*_, _<_};
+ghost use Prim.Native.Nat.{_+_, _*_, _<_, _≤_};
 ghost use Rattle.reading.specs.Marks.{Small};
 ghost use Rattle.reading.specs.Form.{term-of};
 ghost use Rattle.reading.specs.Steps.{figure-of, on-space, on-digit, on-q, on-minus, ended, move};
@@ -12,7 +12,7 @@ use crate::term::Term;
 
 // What a mark in this column does.
 pub(crate) fn moved(stage: Stage, column: usize, mark: Mark) -> Move
-    requires { ⌜ Sound stage ⌝ ∗ ⌜ Small mark ⌝ }
+    requires { ⌜ Sound stage ⌝ ∗ ⌜ Small mark ⌝ ∗ ⌜ 1 ≤ column ⌝ }
     ensures is { λ r. ⌜ r ≡ move stage column mark ⌝ }
     ensures kept { λ r. ⌜ Kept r ⌝ }
 {
@@ -49,7 +49,7 @@ fn spaced(stage: Stage) -> Move
 }
 
 fn counted(stage: Stage, column: usize, digit: u8) -> Move
-    requires { ⌜ Sound stage ⌝ ∗ ⌜ digit < 10 ⌝ }
+    requires { ⌜ Sound stage ⌝ ∗ ⌜ digit < 10 ⌝ ∗ ⌜ 1 ≤ column ⌝ }
     ensures is { λ r. ⌜ r ≡ on-digit stage column digit ⌝ }
     ensures kept { λ r. ⌜ Kept r ⌝ }
 {

@@ -4,7 +4,7 @@ use lib.ListN.{length, take}
 use native.Mathlib.Omega.{arith}
 use Rattle.reading.specs.Reading.{Reads}
 use Rattle.reading.specs.Steps.{final}
-use Rattle.reading.proofs.Loop.{go, ends, stop, ended, unfinished, small}
+use Rattle.reading.proofs.Loop.{go, ends, stop, ended, unfinished, short, begun, small}
 use Rattle.reading.proofs.read.read_line.Needs as need
 use Rattle.reading.proofs.read.read_line.Needs.{in-Go, in-Ends}
 
@@ -30,5 +30,7 @@ returns-in-rest c =
 
 pub ghost-result : need.ghost-result
 ghost-result c =
-    let few = c .loop-i .inv .few in
-    (c .loop-i .inv .whole, (omega arith, (c .loop-i .inv .short, (small (c .loop-i .inv) (c .in-Constant .negative) (c .in-Constant .figure) (c .in-Constant .is), tt))))
+    let w = c .loop-i .inv in
+    let few = w .few in
+    let constant = small w (c .in-Constant .negative) (c .in-Constant .figure) (c .in-Constant .is) in
+    (w .whole, (omega arith, (short w, (begun w, (constant .0, (constant .1, tt))))))
