@@ -5,7 +5,6 @@ use Prim.Native.Nat.{ℕ, _+_, _<_}
 use lib.IntN.{ℤ}
 use lib.ListN.{length, drop}
 use Rattle.std.specs.declared.result.Result.the-variants.{Ok}
-use Rattle.elimination.specs.declared.fault.SheetFault.{SheetFault}
 use Rattle.reading.specs.declared.line.Line.{Line}
 use Rattle.reading.specs.declared.term.Term.{Term}
 use Rattle.reading.specs.Form.{Meaning}

@@ -2,7 +2,6 @@
 use mathlib.Core.Path.{_≡_, refl, sym, ap, subst, _∙_}
 use mathlib.Core.Bool.{Bool, true, false, cond}
 use mathlib.Core.List.{List, [], _∷_, _++_}
-use mathlib.Core.Logic.{_⊎_, inl, inr}
 use Prim.Native.Nat.{ℕ, zero, suc, _+_, _-_, _<_, _≤_}
 use native.Mathlib.Nat.{add-zero}
 use native.Mathlib.Omega.{arith}
@@ -14,7 +13,7 @@ use Rattle.std.proofs.shelf.Lists.{getD-take, length-take-le}
 use Rattle.reading.specs.declared.term.Term.{Term}
 use Rattle.reading.specs.declared.line.Line.{Line}
 use Rattle.reading.specs.Reading.{meaning-of}
-use Rattle.reading.specs.Terms.{none, at, Digits}
+use Rattle.reading.specs.Terms.{none, at}
 use Rattle.placing.specs.Columns.{start, column, number-at}
 use Rattle.placing.specs.Numbers.{with-sign, coefficient, coefficients}
 use Rattle.placing.proofs.Filling.{length-coefficients}

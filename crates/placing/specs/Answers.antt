@@ -6,7 +6,6 @@ use lib.IntN.{ℤ}
 use lib.ListN.{length, drop}
 use Rattle.std.specs.declared.result.Result.{Result}
 use Rattle.std.specs.declared.result.Result.the-variants.{Ok, Err}
-use Rattle.elimination.specs.declared.fault.SheetFault.{SheetFault}
 use Rattle.reading.specs.declared.line.Line.{Line}
 use Rattle.reading.specs.Form.{Meaning}
 use Rattle.reading.specs.Reading.{Reads, meaning-of}

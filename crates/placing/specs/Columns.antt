@@ -5,7 +5,6 @@ use Prim.Native.Nat.{ℕ, _+_, _-_}
 use lib.Dec.{eqb}
 use lib.IntN.{ℤ, pos}
 use lib.ListN.{getD}
-use Rattle.elimination.specs.declared.fault.StepFault.{StepFault}
 use Rattle.elimination.specs.declared.fault.SheetFault.{SheetFault}
 use Rattle.elimination.specs.declared.fault.SheetFault.the-variants.{Size, SetPoint, Length, Room, Label, Limit, Clash, Numbers}
 use Rattle.reading.specs.declared.term.Term.{Term}

@@ -2,7 +2,6 @@
 use Prim.Native.Nat.{ℕ}
 use Rattle.exact.specs.declared.report.Layer.the-variants as layer
 use Rattle.exact.specs.declared.report.Report.{Report}
-use Rattle.elimination.specs.declared.fault.StepFault.{StepFault}
 use Rattle.elimination.specs.declared.fault.SheetFault.{SheetFault}
 use Rattle.elimination.specs.declared.fault.SheetFault.the-variants as sheet
 use Rattle.elimination.specs.Faults.{sheet-report}

@@ -5,7 +5,6 @@ use Prim.Native.Nat.{ℕ, _<_, _≤_}
 use lib.ListN.{length}
 use Rattle.std.specs.declared.result.Result.{Result}
 use Rattle.std.specs.declared.result.Result.the-variants.{Ok, Err}
-use Rattle.elimination.specs.declared.fault.SheetFault.{SheetFault}
 use Rattle.reading.specs.declared.term.Term.{Term}
 use Rattle.reading.specs.Terms.{at}
 use Rattle.placing.specs.declared.fault.TextFault.{TextFault}

@@ -1,6 +1,6 @@
 -- What a turn of the reader keeps, and what its end tells.
 use mathlib.Core.Path.{_≡_, refl, sym, ap, subst, _∙_}
-use mathlib.Core.List.{List, [], _∷_, _++_}
+use mathlib.Core.List.{List, []}
 use Prim.Native.Nat.{ℕ, _+_, _<_, _≤_}
 use native.Mathlib.Omega.{arith}
 use lib.ListN.{length, take, drop, set, getD, length-set}
@@ -18,11 +18,11 @@ use Rattle.reading.specs.declared.stage.Stage.the-variants.{Opening, Signed, C
 use Rattle.reading.specs.declared.stage.Move.{Move}
 use Rattle.reading.specs.declared.stage.Move.the-variants.{Go, Ends, Stop}
 use Rattle.reading.specs.Marks.{mark}
-use Rattle.reading.specs.Steps.{move, Outcome, stops, final, onward, reading}
+use Rattle.reading.specs.Steps.{move, stops, final, onward, reading}
 use Rattle.reading.specs.Reading.{Reads}
 use Rattle.reading.specs.Sound.{Sound}
 use Rattle.reading.proofs.Bounds.{seven}
-use Rattle.reading.proofs.Exact.{reads}
+use Rattle.reading.proofs.Stops.{reads}
 
 pub record Sofar (text : List ℕ) (i : ℕ) (s : Stage) (n : ℕ) (ts : List Term) : Type 0 where
   pub goes : reading s (i + 1) (take n ts) (drop i text) ≡ reading Opening 1 [] text

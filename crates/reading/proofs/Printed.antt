@@ -1,27 +1,24 @@
 -- A printed whole number is read back.
-use mathlib.Core.Path.{_≡_, refl, sym, ap, subst, _∙_}
-use mathlib.Core.Bool.{Bool, true, false, cond}
+use mathlib.Core.Path.{_≡_, refl, sym, ap, subst}
+use mathlib.Core.Bool.{Bool, true, false}
 use mathlib.Core.List.{List, [], _∷_, _++_, map}
-use mathlib.Core.Logic.{_⊎_, inl, inr}
+use mathlib.Core.Logic.{inl, inr}
 use Prim.Native.Nat.{ℕ, suc, _+_, _-_, _*_, _^_, _<_, _≤_}
 use native.Mathlib.Nat.{add-zero}
 use native.Mathlib.Omega.{arith}
 use borrow.Author.Needs.{needs}
 use borrow.Author.Tests.{le-leb, ne-eqb}
-use lib.Dec.{eqb, leb}
 use lib.Chars.{codes}
 use lib.IntN.{ℤ, pos, negsuc, natAbs}
 use lib.ListN.{length}
 use Rattle.std.specs.Written.{decimal, signed}
-use Rattle.std.specs.Text.{In}
 use Rattle.std.specs.Reads.{Digits}
-use Rattle.std.specs.shelf.Text.{allDigits}
-use Rattle.std.proofs.shelf.Numerals.{Numerals, TellsDigits, tells-digits, numerals-by-fold, digit-from-value}
+use Rattle.std.proofs.shelf.Numerals.{Numerals, tells-digits, numerals-by-fold, digit-from-value}
 use Rattle.std.proofs.shelf.Decimals.{digits-decimal, value-decimal, length-decimal-le, decimal-some}
 use Rattle.reading.specs.declared.mark.Mark.{Mark}
-use Rattle.reading.specs.declared.mark.Mark.the-variants.{Space, Digit, SetPoint, Plus, Minus, Equals, Other}
+use Rattle.reading.specs.declared.mark.Mark.the-variants.{Digit}
 use Rattle.reading.specs.declared.term.Term.{Term}
-use Rattle.reading.specs.Form.{Form, Meaning, gap, finish, constant, perhaps-minus, term-of, digits, integer, one, more}
+use Rattle.reading.specs.Form.{Form, Meaning, gap, finish, constant, perhaps-minus, term-of, digits, integer, more}
 use Rattle.reading.specs.Marks.{mark}
 use Rattle.std.proofs.shelf.Lists.{append-nil, map-append}
 use Rattle.reading.specs.Back.{below-zero, value-start, ReadsBack}

@@ -6,7 +6,7 @@ use lib.Chars.{codes}
 use lib.IntN.{ℤ, pos, negsuc, natAbs}
 use lib.ListN.{length}
 use Rattle.std.specs.Written.{decimal, signed}
-use Rattle.reading.specs.Form.{Meaning, IsLine, term-of}
+use Rattle.reading.specs.Form.{IsLine, term-of}
 
 -- q1 = 2, as a row shows it
 abbrev pub settled : ℕ → ℤ → List ℕ

@@ -1,6 +1,6 @@
 use elimination::fault::SheetFault;
 use placing::column::refusal_of;
-use placing::fault::TextFault;
+use placing::fault::TextFaultDebug;
 use placing::numbers::read_numbers;
 use reading::read::read_line;
 use std::test::*;
@@ -13,27 +13,81 @@ fn column(text: &[u8]) -> usize {
     }
 }
 
-#[test]
-fn good_lines() -> Result<(), Fail> {
-    check_eq(column(b"q1 + q2 + q3 = 6"), 0)?;
-    check_eq(column(b" - 12 q3+q4=- 0000005 "), 0)?;
-    check_eq(column(b"q1234567=1234567"), 0)
+// A text, and the column where it stops being a line.
+struct Case {
+    text: &'static [u8],
+    column: usize,
 }
 
+static LINES: [Case; 15] = [
+    Case {
+        text: b"q1 + q2 + q3 = 6",
+        column: 0,
+    },
+    Case {
+        text: b" - 12 q3+q4=- 0000005 ",
+        column: 0,
+    },
+    Case {
+        text: b"q1234567=1234567",
+        column: 0,
+    },
+    Case {
+        text: b"",
+        column: 1,
+    },
+    Case {
+        text: b"   ",
+        column: 4,
+    },
+    Case {
+        text: b"q",
+        column: 2,
+    },
+    Case {
+        text: b"q 1=0",
+        column: 2,
+    },
+    Case {
+        text: b"12345678q1=0",
+        column: 8,
+    },
+    Case {
+        text: b"1 2q1=0",
+        column: 3,
+    },
+    Case {
+        text: b"--q1=0",
+        column: 2,
+    },
+    Case {
+        text: b"+q1=0",
+        column: 1,
+    },
+    Case {
+        text: b"q1+=3",
+        column: 4,
+    },
+    Case {
+        text: b"q1=5x",
+        column: 5,
+    },
+    Case {
+        text: b"q1=5 6",
+        column: 6,
+    },
+    Case {
+        text: b"q1=\r",
+        column: 4,
+    },
+];
+
 #[test]
-fn damaged_lines() -> Result<(), Fail> {
-    check_eq(column(b""), 1)?;
-    check_eq(column(b"   "), 4)?;
-    check_eq(column(b"q"), 2)?;
-    check_eq(column(b"q 1=0"), 2)?;
-    check_eq(column(b"12345678q1=0"), 8)?;
-    check_eq(column(b"1 2q1=0"), 3)?;
-    check_eq(column(b"--q1=0"), 2)?;
-    check_eq(column(b"+q1=0"), 1)?;
-    check_eq(column(b"q1+=3"), 4)?;
-    check_eq(column(b"q1=5x"), 5)?;
-    check_eq(column(b"q1=5 6"), 6)?;
-    check_eq(column(b"q1=\r"), 4)
+fn good_and_damaged_lines() -> Result<(), Fail> {
+    for case in &LINES {
+        check_eq(column(case.text), case.column)?;
+    }
+    Ok(())
 }
 
 // The number and place that a text over two set points is refused with.

@@ -1,16 +1,10 @@
-use mathlib.Core.Path.{_≡_, sym, ap, subst}
-use Prim.Native.Nat.{_<_, _≤_, _^_}
+use mathlib.Core.Path.{subst}
 use native.Mathlib.Omega.{arith}
-use borrow.Author.Needs.{needs}
-use lib.IntN.{pos}
-use lib.ListN.{length, getD}
-use lib.Signed.{mag}
 use Rattle.std.specs.Joined.{joined}
 use Rattle.std.proofs.shelf.Lists.{take-all}
-use Rattle.printing.specs.declared.entry.Entry.{Entry}
 use Rattle.printing.specs.Rows.{entry-text}
 use Rattle.printing.proofs.Over.{nothing, Put}
-use Rattle.printing.proofs.Texts.{entry-short, entry-on, Plain}
+use Rattle.printing.proofs.Texts.{entry-on}
 use Rattle.printing.proofs.put.put_entries.Needs as need
 
 pub loop-k-holds : need.loop-k-holds

@@ -4,7 +4,8 @@ use native.Mathlib.Omega.{arith}
 use lib.Chars.{codes}
 use Rattle.reading.specs.declared.stage.Stage.the-variants.{Opening}
 use Rattle.reading.specs.Examples.{nine}
-use Rattle.reading.proofs.Exact.{sound, reads}
+use Rattle.reading.proofs.Exact.{sound}
+use Rattle.reading.proofs.Stops.{reads}
 use Rattle.reading.proofs.laws.examples_stand.Needs as need
 
 pub returns : need.returns

@@ -1,5 +1,4 @@
 use mathlib.Core.Path.{refl}
-use native.Mathlib.Omega.{arith}
 use Rattle.reading.proofs.Bounds.{low, longer}
 use borrow.Author.Needs.{needs}
 use Rattle.reading.proofs.step.appended.Needs as need
