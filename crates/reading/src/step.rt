@@ -48,6 +48,7 @@ fn spaced(stage: Stage) -> Move
     }
 }
 
+// A digit begins an integer or makes it longer, up to seven digits.
 fn counted(stage: Stage, column: usize, digit: u8) -> Move
     requires { ⌜ Sound stage ⌝ ∗ ⌜ digit < 10 ⌝ ∗ ⌜ 1 ≤ column ⌝ }
     ensures is { λ r. ⌜ r ≡ on-digit stage column digit ⌝ }
@@ -94,6 +95,7 @@ fn named(stage: Stage, column: usize) -> Move
     }
 }
 
+// A minus is the sign of the first term or of the constant, or stands between terms.
 fn subtracted(stage: Stage) -> Move
     requires { ⌜ Sound stage ⌝ }
     ensures is { λ r. ⌜ r ≡ on-minus stage ⌝ }
