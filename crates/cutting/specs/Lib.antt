@@ -1,0 +1,4 @@
+pub mod Heading
+pub mod Joined
+pub mod Lines
+pub mod Taken

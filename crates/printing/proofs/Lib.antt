@@ -1,0 +1,4 @@
+pub mod Number
+pub mod Over
+pub mod Rowing
+pub mod Texts

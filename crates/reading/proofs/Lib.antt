@@ -1,0 +1,5 @@
+pub mod Bounds
+pub mod Exact
+pub mod Loop
+pub mod Printed
+pub mod Stops
