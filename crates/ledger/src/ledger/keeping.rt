@@ -40,10 +40,11 @@ impl Ledger {
         ensures answer { λ r. ⌜ r ≡ may-hold subject (listed (now (self .entry))) ⌝ }
         ensures after { λ r. ⌜ listed (now (self .exit)) ≡ cond r (holding label subject (listed (now (self .entry)))) (listed (now (self .entry))) ⌝ }
     {
-        if self.count >= self.n {
+        let n = self.set_points();
+        if self.count >= n {
             return false;
         }
-        if subject >= self.n {
+        if subject >= n {
             return false;
         }
         self.entries[self.count] = Entry {
