@@ -30,6 +30,10 @@ module _ {V : Type 0} {K : Kind V} {admits : Fraction → Type 0} {alike : Fract
   whole-held a b = let w = laws .wholes a b in ap held (w .1) ∙ ap Ok (sym (ap (λ o. or-nil K (held o)) (w .1)))
 
   module _ (all : complete ≡ true) where
+    pub whole-always : (a : ℤ) → (v : V) × (whole-of K a ≡ Ok v)
+    unfolding whole-of
+    whole-always a = let s = laws .complete-all all (whole a) (laws .kind .admits-whole a) in (s .0, ap held (s .1))
+
     pub less-held : (a b c : V) → (v : V) × (less-of K a b c ≡ Ok v)
     unfolding less-of
     less-held a b c =

@@ -16,9 +16,9 @@ use Rattle.exact.specs.declared.fault.NumberFault.{NumberFault}
 use Rattle.exact.specs.Fraction.{Fraction}
 use Rattle.exact.specs.Kind.{Kind, Lawful}
 use Rattle.exact.specs.Answers.{whole-of, less-of, over-of}
-use Rattle.exact.proofs.Held.{less-held, over-held}
+use Rattle.exact.proofs.Held.{whole-always, less-held, over-held}
 use Rattle.rows.specs.declared.fault.RowFault.{RowFault}
-use Rattle.rows.specs.Row.{at, done, Leaves, by-column, less-swept, whole-op, less-op, over-op, less-row, over-row, cleared, clear-swept, highest}
+use Rattle.rows.specs.Row.{at, done, Leaves, by-column, less-swept, whole-op, whole-row, less-op, over-op, less-row, over-row, cleared, clear-swept, highest}
 use Rattle.rows.proofs.Sweeps.{always, made-swept, swept-length}
 
 pub inside : (u m : ℕ) → u < m → ltb u m ≡ true
@@ -105,6 +105,17 @@ module _ {V : Type 0} (K : Kind V) where
       go false = made (less-row K (at K w s) w r) refl
 
 module _ {V : Type 0} {K : Kind V} {admits : Fraction → Type 0} {alike : Fraction → Fraction → Type 0} {complete : Bool} (laws : Lawful K admits alike complete) (all : complete ≡ true) where
+  pub whole-row-always : (numbers : List ℤ) (w : List V) → done (whole-row K numbers w) ≡ Ok tt
+  unfolding whole-row whole-op
+  whole-row-always numbers w = always (whole-op K numbers) each 0 w
+    where
+      each : (u : ℕ) (x : V) → (v : V) × (whole-op K numbers u x ≡ Ok v)
+      each u x = go (ltb u (length numbers))
+        where
+          go : (b : Bool) → (v : V) × (cond b (whole-of K (getD numbers u (pos 0))) (Ok x) ≡ Ok v)
+          go true = whole-always laws all (getD numbers u (pos 0))
+          go false = (x, refl)
+
   pub less-always : (f : V) (w r : List V) → done (less-row K f w r) ≡ Ok tt
   unfolding less-row less-op
   less-always f w r = always (less-op K f r) each 0 w

@@ -21,6 +21,7 @@ pub fn load<K: Number>(w: &mut [K], numbers: &[i32]) -> Result<(), RowFault>
     ensures answer { λ r. ⌜ r ≡ done (whole-row kind (now (numbers .entry)) (now (w .entry))) ⌝ }
     ensures made { λ _. ⌜ Leaves (whole-row kind (now (numbers .entry)) (now (w .entry))) (now (w .exit)) ⌝ }
     ensures left { λ _. ⌜ now (w .exit) ≡ swept (whole-op kind (now (numbers .entry))) 0 (now (w .entry)) ⌝ }
+    ensures always { λ r. ⌜ (complete ≡ true → r ≡ Ok tt) ⌝ }
 {
     let width = w.len().min(numbers.len());
     for i in 0..width {

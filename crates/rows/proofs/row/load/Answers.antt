@@ -12,7 +12,7 @@ use Rattle.std.specs.declared.result.Result.the-variants.{Err}
 use Rattle.exact.specs.Answers.{whole-of}
 use Rattle.rows.specs.Row.{placed, whole-op, whole-row}
 use Rattle.rows.proofs.Sweeps.{at-start, at-more, at-stop, at-end, leaves-all, leaves-err}
-use Rattle.rows.proofs.Ops.{whole-inside, whole-past, any-default}
+use Rattle.rows.proofs.Ops.{whole-inside, whole-past, whole-row-always, any-default}
 use Rattle.rows.proofs.row.load.Needs as need
 
 pub loop-i-holds : need.loop-i-holds
@@ -45,6 +45,7 @@ returns g c =
       answer = sym (e .0);
       made = leaves-all op (c .args .w .now) w (e .0) (e .1);
       left = sym (e .1);
+      always = λ _. refl;
     }
 
 pub returns-in-Break-w : need.returns-in-Break-w
@@ -61,10 +62,12 @@ returns-in-Break-w g c =
     let x = getD w i (K .nil) in
     let said : c .whole .result ≡ whole-op K numbers i x = c .whole .ensures ∙ ap (whole-of K) (toZ-ofZ w32 z fits) ∙ sym (whole-inside K numbers i x b) in
     let p = err-from-errBy (c .from-residual .result) (c .from-residual .ensures .1) in
+    let says : c .from-residual .result ≡ Err (c .in-Break-w .field-0 .0) = p .1 ∙ ap Err (p .2) in
     let stop = at-stop (whole-op K numbers) (c .args .w .now) w i x (c .in-Break-w .field-0 .0) h (any-default w i (K .nil) x h)
     (ap (placed i) (sym said) ∙ sym (c .at-column .ensures) ∙ c .in-Break-w .was tt) (c .loop-i .inv) in
     record {
-      answer = p .1 ∙ ap Err (p .2) ∙ sym (stop .0);
+      answer = says ∙ sym (stop .0);
       made = leaves-err (whole-row K numbers (c .args .w .now)) (c .in-Break-w .field-0 .0) (stop .0) w;
       left = sym (stop .1);
+      always = λ all. says ∙ sym (stop .0) ∙ whole-row-always (g .K·Number .laws) all numbers (c .args .w .now);
     }
