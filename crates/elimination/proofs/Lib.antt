@@ -2,12 +2,12 @@ pub mod Places
 pub mod Tests
 mod Refused
 mod Walks
-mod Frames
+pub mod Frames
 mod Back
 mod Telling
 mod Writing
 mod Opening
 mod Solving
-mod Verdicts
+pub mod Verdicts
 mod Always
 pub mod Shown

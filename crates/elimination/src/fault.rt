@@ -48,8 +48,8 @@ pub enum SheetFault {
 pub impl From<StepFault> for SheetFault as SheetFromStep {
     ghost converts = { λ x r. r ≡ step-raised x };
 
-    fn from(fault: StepFault) -> SheetFault {
-        SheetFault::Numbers(fault)
+    fn from(stop: StepFault) -> SheetFault {
+        SheetFault::Numbers(stop)
     }
 }
 

@@ -1,4 +1,5 @@
 // Stating a line over the held ones, in exact numbers of any kind.
+mod backstep;
 mod clash;
 pub mod course;
 pub mod fault;

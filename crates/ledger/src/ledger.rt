@@ -4,6 +4,7 @@ ghost use lib.ListN.{length};
 ghost use Rattle.ledger.specs.Entries.{Subjects};
 use crate::entry::Entry;
 
+mod entering;
 mod keeping;
 
 // n set points, and the entries of the held lines in the order they were taken.

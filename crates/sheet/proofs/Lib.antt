@@ -1,0 +1,3 @@
+mod Made
+mod Rows
+mod Stating

@@ -58,10 +58,11 @@ impl<'a, K: Number> Sheet<'a, K> {
         ensures always { λ r. ⌜ (complete ≡ true → (f : StepFaultOf) → r ≡ Err (Numbers f) → ⊥) ⌝ }
     {
         let ledger = self.ledger;
+        let (_, entries) = fitting(&ledger, self.memory.len());
+        let place = entries.len() + 1;
         match state_line(&ledger, self.memory, line, label, records)? {
             Course::Follows => Ok(Stated::Follows),
             Course::Taken { subject } => {
-                let place = ledger.entries().len() + 1;
                 if !self.ledger.hold(label, subject) {
                     unreachable();
                 }

@@ -12,7 +12,7 @@ use Rattle.elimination.specs.Steps.{back}
 use Rattle.elimination.proofs.Places.{row-small, row-fits, row-is}
 use Rattle.elimination.proofs.Walks.{located-made, located-err, lines-end}
 use Rattle.elimination.proofs.Back.{would-more, back-stop}
-use Rattle.elimination.proofs.steps.would_go_back.Needs as need
+use Rattle.elimination.proofs.backstep.would_go_back.Needs as need
 
 pub loop-j-holds : need.loop-j-holds
 loop-j-holds g c = refl

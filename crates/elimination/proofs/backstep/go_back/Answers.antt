@@ -14,7 +14,7 @@ use Rattle.elimination.proofs.Back.{Gone, gone-start, gone-more, gone-stop, go
 use Rattle.elimination.proofs.Frames.{put-row, part-over}
 use Rattle.elimination.proofs.Places.{row-next, row-fits, row-length, rest-past}
 use Rattle.elimination.proofs.Walks.{located-ok, located-err, leaves-ok, leaves-err}
-use Rattle.elimination.proofs.steps.go_back.Needs as need
+use Rattle.elimination.proofs.backstep.go_back.Needs as need
 
 pub loop-j-holds : need.loop-j-holds
 loop-j-holds g c = gone-start (g .K·Number .kind) (c .args .q) (c .args .n) (row-at (c .args .n) (c .args .memory .now) (length (c .args .entries .now))) (c .args .entries .now) (c .args .memory .now)

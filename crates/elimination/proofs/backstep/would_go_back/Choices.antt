@@ -4,7 +4,7 @@ use lib.ListN.{length, drop}
 use Rattle.rows.specs.Row.{done}
 use Rattle.elimination.specs.Held.{row-at, held-lines}
 use Rattle.elimination.specs.Steps.{back}
-use Rattle.elimination.proofs.steps.would_go_back.Given as given
+use Rattle.elimination.proofs.backstep.would_go_back.Given as given
 
 abbrev pub Inv-loop-j : given.InvT-loop-j
 Inv-loop-j g l =
