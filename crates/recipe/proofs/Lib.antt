@@ -1,0 +1,3 @@
+mod Clashes
+mod Labelling
+mod Output

@@ -1,0 +1,3 @@
+pub mod Added
+pub mod Evidence
+pub mod Labels
