@@ -3,10 +3,11 @@ use std::test::*;
 
 #[test]
 fn longest_input(rt: LibcRuntime) -> Result<(), Fail> {
-    let mut text = [b'\n'; 16385];
-    text[0..3].copy_from_slice(b"R 1");
-    text[16380..16384].copy_from_slice(b"q1=5");
-    prints(rt.alloc(), &text[0..16384], b"16377 held 1\nq1 = 5\n")?;
+    let mut text = b"R 1".to_vec(rt.alloc())?;
+    text.extend_from_slice(&[b'\n'; 16377])?;
+    text.extend_from_slice(b"q1=5")?;
+    prints(rt.alloc(), &text, b"16377 held 1\nq1 = 5\n")?;
+    text.push(b'\n')?;
     prints(rt.alloc(), &text, b"0 refused 26 0\n")
 }
 
@@ -19,8 +20,9 @@ fn too_long_before_heading(rt: LibcRuntime) -> Result<(), Fail> {
 
 #[test]
 fn longest_line(rt: LibcRuntime) -> Result<(), Fail> {
-    let mut text = [b' '; 205];
-    text[0..8].copy_from_slice(b"R 1\nq1=1");
-    prints(rt.alloc(), &text[0..204], b"1 held 1\nq1 = 1\n")?;
+    let mut text = b"R 1\nq1=1".to_vec(rt.alloc())?;
+    text.extend_from_slice(&[b' '; 196])?;
+    prints(rt.alloc(), &text, b"1 held 1\nq1 = 1\n")?;
+    text.push(b' ')?;
     prints(rt.alloc(), &text, b"1 refused 22 201\n")
 }
