@@ -1,6 +1,15 @@
+ghost use mathlib.Core.Path.{_≡_};
 ghost use Prim.Native.Nat.{_≤_};
 ghost use lib.ListN.{length};
+ghost use Rattle.std.specs.Of.Vec.{vec-items};
+ghost use Rattle.std.specs.Vec.{made};
+ghost use Rattle.cutting.specs.Taken.{named};
+ghost use Rattle.printing.specs.Rows.{refused-row};
+ghost use Rattle.placing.specs.Faults.{text-report};
+ghost use Rattle.sheet.specs.Contents.{contents};
 ghost use Rattle.recipe.specs.Labels.{Counted};
+ghost use Rattle.recipe.specs.Run.{Adds, SheetDone};
+ghost use Rattle.recipe.specs.Transcribed.{Worked, Transcribed};
 use crate::adding::add_refused;
 use crate::answering::add_answer;
 use crate::settling::add_all_settled;
@@ -29,7 +38,9 @@ use std::alloc::AllocError;
 use std::alloc::Global;
 
 // All that is printed of an input.
-pub fn transcript(heap: Global, input: &[u8]) -> Result<Vec<u8>, AllocError> {
+pub fn transcript(heap: Global, input: &[u8]) -> Result<Vec<u8>, AllocError>
+    ensures { λ r. ⌜ made r (λ v. Transcribed (now (input .entry)) (vec-items v)) ⌝ }
+{
     let mut lines = Lines::of(input);
     match open_input(&mut lines) {
         Ok(heading) => worked(heap, heading, &mut lines),
@@ -38,7 +49,9 @@ pub fn transcript(heap: Global, input: &[u8]) -> Result<Vec<u8>, AllocError> {
 }
 
 // An input that is not opened is told in one row, with label 0.
-fn refused(heap: Global, fault: TextFault) -> Result<Vec<u8>, AllocError> {
+fn refused(heap: Global, fault: TextFault) -> Result<Vec<u8>, AllocError>
+    ensures { λ r. ⌜ made r (λ v. vec-items v ≡ refused-row 0 (text-report fault)) ⌝ }
+{
     let mut out = Vec::new(heap);
     add_refused(&mut out, 0, fault.report())?;
     Ok(out)
@@ -47,6 +60,7 @@ fn refused(heap: Global, fault: TextFault) -> Result<Vec<u8>, AllocError> {
 fn worked(heap: Global, heading: Heading, lines: &mut Lines<'_>) -> Result<Vec<u8>, AllocError>
     requires size { ⌜ (1 ≤ heading .n) × (heading .n ≤ 48) ⌝ }
     requires counted { ⌜ Counted (now lines) ⌝ }
+    ensures { λ r. ⌜ made r (λ v. Worked (heading .kind) (heading .n) (named (now (lines .entry))) (vec-items v)) ⌝ }
 {
     match heading.kind {
         KindLetter::R => worked_in::<Ratio>(heap, heading.n, lines),
@@ -63,6 +77,7 @@ fn worked_in<K: Shown + Clone>(
 ) -> Result<Vec<u8>, AllocError>
     requires size { ⌜ (1 ≤ n) × (n ≤ 48) ⌝ }
     requires counted { ⌜ Counted (now lines) ⌝ }
+    ensures { λ r. ⌜ made r (λ v. SheetDone (K·Number .kind) n (named (now (lines .entry))) (vec-items v)) ⌝ }
 {
     let needed = measure(n, usize::MAX).unwrap();
     let nought = zero::<K>();
@@ -89,6 +104,7 @@ fn add_lines<K: Shown>(
 ) -> Result<(), AllocError>
     requires few { ⌜ length (now records) ≤ 49 ⌝ }
     requires counted { ⌜ Counted (now lines) ⌝ }
+    ensures { λ r. ⌜ made r (λ _. Adds (K·Number .kind) (length (now (records .entry))) (contents (now (sheet .entry))) (named (now (lines .entry))) (vec-items (now (out .entry))) (vec-items (now (out .exit))) (contents (now (sheet .exit)))) ⌝ }
 {
     while let Some(line) = lines.next_line() {
         let label = line.label as u32;
