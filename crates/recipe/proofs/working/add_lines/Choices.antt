@@ -4,7 +4,7 @@ use Rattle.cutting.specs.Taken.{named}
 use Rattle.sheet.specs.Contents.{contents}
 use Rattle.recipe.specs.Labels.{Counted}
 use Rattle.recipe.proofs.Lining.{Reached}
-use Rattle.recipe.proofs.transcript.add_lines.Given as given
+use Rattle.recipe.proofs.working.add_lines.Given as given
 
 abbrev pub Inv-loop-line : given.InvT-loop-line
 Inv-loop-line g l =

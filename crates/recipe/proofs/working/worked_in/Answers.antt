@@ -5,7 +5,7 @@ use Rattle.cutting.specs.Taken.{named}
 use Rattle.sheet.specs.Contents.{contents}
 use Rattle.recipe.proofs.Whole.{sheet-done}
 use Rattle.std.proofs.shelf.Results.{err-from-errBy}
-use Rattle.recipe.proofs.transcript.worked_in.Needs as need
+use Rattle.recipe.proofs.working.worked_in.Needs as need
 
 pub returns-in-Break-add-all-settled : need.returns-in-Break-add-all-settled
 returns-in-Break-add-all-settled g c =

@@ -10,7 +10,7 @@ use Rattle.recipe.specs.Evidence.{Evident, answer-row}
 use Rattle.recipe.specs.Run.{LineDone}
 use Rattle.recipe.proofs.Clashes.{evident, line-done}
 use Rattle.recipe.proofs.Lining.{reached-none, reached-more, reached-all}
-use Rattle.recipe.proofs.transcript.add_lines.Needs as need
+use Rattle.recipe.proofs.working.add_lines.Needs as need
 
 pub loop-line-holds : need.loop-line-holds
 loop-line-holds g c =
