@@ -1,3 +1,5 @@
 pub mod Added
 pub mod Evidence
 pub mod Labels
+pub mod Run
+pub mod Transcribed

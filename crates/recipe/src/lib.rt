@@ -4,3 +4,4 @@ mod answering;
 mod settling;
 mod stating;
 pub mod transcript;
+mod working;

@@ -1,5 +1,5 @@
-ghost use lib.ListN.{length};
-ghost use Rattle.recipe.specs.Evidence.{Evident};
+ghost use Rattle.sheet.specs.Contents.{contents};
+ghost use Rattle.recipe.specs.Run.{Tried};
 use elimination::record::Record;
 use exact::number::Number;
 use placing::column::refusal_of;
@@ -18,7 +18,7 @@ pub(crate) fn state_text<K: Number>(
     label: u32,
     records: &mut [Record<K>],
 ) -> Result<Stated, TextFault>
-    ensures { λ r. ⌜ Evident (length (now (records .entry))) r ⌝ }
+    ensures { λ r. ⌜ Tried kind (contents (now (sheet .entry))) label (now (text .entry)) (now (records .entry)) r (contents (now (sheet .exit))) (now (records .exit)) ⌝ }
 {
     let n = sheet.set_points();
     let mut numbers = [0; MOST_NUMBERS];

@@ -1,35 +1,21 @@
-ghost use Prim.Native.Nat.{_≤_};
-ghost use lib.ListN.{length};
-ghost use Rattle.recipe.specs.Labels.{Counted};
+ghost use mathlib.Core.Path.{_≡_};
+ghost use Rattle.std.specs.Of.Vec.{vec-items};
+ghost use Rattle.std.specs.Vec.{made};
+ghost use Rattle.printing.specs.Rows.{refused-row};
+ghost use Rattle.placing.specs.Faults.{text-report};
+ghost use Rattle.recipe.specs.Transcribed.{Transcribed};
 use crate::adding::add_refused;
-use crate::answering::add_answer;
-use crate::settling::add_all_settled;
-use crate::stating::state_text;
-use cutting::heading::Heading;
-use cutting::heading::KindLetter;
+use crate::working::worked;
 use cutting::lines::Lines;
-use elimination::record::Record;
-use elimination::record::RecordClone;
-use exact::shown::Shown;
-use exact::value::zero;
-use fractions::ratio::Ratio;
-use fractions::ratio::number::RatioNumber;
-use fractions::ratio::shown::RatioShown;
 use placing::fault::TextFault;
 use placing::input::open_input;
-use residues::index::Index;
-use residues::index::number::IndexNumber;
-use residues::index::shown::IndexShown;
-use residues::parity::Parity;
-use residues::parity::number::ParityNumber;
-use residues::parity::shown::ParityShown;
-use sheet::sheet::Sheet;
-use sheet::size::measure;
 use std::alloc::AllocError;
 use std::alloc::Global;
 
 // All that is printed of an input.
-pub fn transcript(heap: Global, input: &[u8]) -> Result<Vec<u8>, AllocError> {
+pub fn transcript(heap: Global, input: &[u8]) -> Result<Vec<u8>, AllocError>
+    ensures { λ r. ⌜ made r (λ v. Transcribed (now (input .entry)) (vec-items v)) ⌝ }
+{
     let mut lines = Lines::of(input);
     match open_input(&mut lines) {
         Ok(heading) => worked(heap, heading, &mut lines),
@@ -38,62 +24,10 @@ pub fn transcript(heap: Global, input: &[u8]) -> Result<Vec<u8>, AllocError> {
 }
 
 // An input that is not opened is told in one row, with label 0.
-fn refused(heap: Global, fault: TextFault) -> Result<Vec<u8>, AllocError> {
+fn refused(heap: Global, fault: TextFault) -> Result<Vec<u8>, AllocError>
+    ensures { λ r. ⌜ made r (λ v. vec-items v ≡ refused-row 0 (text-report fault)) ⌝ }
+{
     let mut out = Vec::new(heap);
     add_refused(&mut out, 0, fault.report())?;
     Ok(out)
-}
-
-fn worked(heap: Global, heading: Heading, lines: &mut Lines<'_>) -> Result<Vec<u8>, AllocError>
-    requires size { ⌜ (1 ≤ heading .n) × (heading .n ≤ 48) ⌝ }
-    requires counted { ⌜ Counted (now lines) ⌝ }
-{
-    match heading.kind {
-        KindLetter::R => worked_in::<Ratio>(heap, heading.n, lines),
-        KindLetter::P => worked_in::<Parity>(heap, heading.n, lines),
-        KindLetter::I => worked_in::<Index>(heap, heading.n, lines),
-    }
-}
-
-// States the lines on a sheet of n set points, in the numbers of a kind, and then reads it.
-fn worked_in<K: Shown + Clone>(
-    heap: Global,
-    n: usize,
-    lines: &mut Lines<'_>,
-) -> Result<Vec<u8>, AllocError>
-    requires size { ⌜ (1 ≤ n) × (n ≤ 48) ⌝ }
-    requires counted { ⌜ Counted (now lines) ⌝ }
-{
-    let needed = measure(n, usize::MAX).unwrap();
-    let nought = zero::<K>();
-    let mut memory = vec![in heap; nought; needed]?;
-    let blank = Record {
-        place: 0,
-        label: 0,
-        multiplier: nought,
-    };
-    let mut records = vec![in heap; blank; n + 1]?;
-    let mut sheet = Sheet::make(n, 1, &mut memory);
-    let mut out = Vec::new(heap);
-    add_lines(&mut out, &mut sheet, &mut records, lines)?;
-    add_all_settled(&mut out, &sheet)?;
-    Ok(out)
-}
-
-// Adds the row of each line that is not empty.
-fn add_lines<K: Shown>(
-    out: &mut Vec<u8>,
-    sheet: &mut Sheet<'_, K>,
-    records: &mut [Record<K>],
-    lines: &mut Lines<'_>,
-) -> Result<(), AllocError>
-    requires few { ⌜ length (now records) ≤ 49 ⌝ }
-    requires counted { ⌜ Counted (now lines) ⌝ }
-{
-    while let Some(line) = lines.next_line() {
-        let label = line.label as u32;
-        let answer = state_text(sheet, line.bytes, label, records);
-        add_answer(out, label, answer, records)?;
-    }
-    Ok(())
 }
