@@ -1,14 +1,20 @@
 // Prints the transcript of a recipe: of the file that the first argument names, or of the standard input.
 use recipe::transcript::transcript;
 use std::env;
+use std::error::AnyError;
 use std::fs;
 use std::io;
 use std::io::Read;
 
-fn main(rt: LibcRuntime) -> io::Result<()> {
-    let input = recipe_of(&rt)?;
+fn main(rt: LibcRuntime) -> Result<(), AnyError> {
+    rt.report(run(&rt))
+}
+
+fn run(rt: &LibcRuntime) -> Result<(), AnyError> {
+    let input = recipe_of(rt)?;
     let output = transcript(rt.alloc(), &input)?;
-    rt.write_all(&output)
+    rt.write_all(&output)?;
+    Ok(())
 }
 
 // The bytes of the recipe, whatever they are.
