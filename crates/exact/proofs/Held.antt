@@ -1,5 +1,5 @@
 -- Which answers of a kind's functions are sure to be values, by its laws.
-use Rattle.std.proofs.Common.{◌≡◌, ℕ, ◌≤◌, Bool, true, false, cond, T, ◌↔◌, ℤ, pos, nat_abs, Some, None, Ok, Err, Option, Result, sym, refl, ap, ◌∙◌, subst, arith}
+use Rattle.std.proofs.Common.{◌≡◌, ◌≤◌, Bool, true, false, cond, T, ℤ, pos, nat_abs, Ok, Err, sym, refl, ap, ◌∙◌, subst}
 use Rattle.exact.specs.declared.fault.NumberFault.TheVariants.{ByZero}
 use Rattle.exact.specs.Fraction.{Fraction, whole, times, opposite, turned, less_times, ratio}
 use Rattle.exact.specs.Kind.{Kind, Lawful}

@@ -1,8 +1,8 @@
 -- What the functions of a kind answer.
-use Rattle.std.specs.Prelude.{Bool, true, false, cond, ℤ, pos, Some, None, Ok, Err, Option, Result}
+use Rattle.std.specs.Prelude.{cond, ℤ, Some, None, Ok, Err, Option, Result}
 use Rattle.exact.specs.declared.fault.NumberFault.{NumberFault}
 use Rattle.exact.specs.declared.fault.NumberFault.TheVariants.{Beyond, ByZero}
-use Rattle.exact.specs.Fraction.{Fraction, whole, less_times, ratio}
+use Rattle.exact.specs.Fraction.{whole, less_times, ratio}
 use Rattle.exact.specs.Kind.{Kind}
 
 -- the value of a number where it is held, else "beyond the numbers"

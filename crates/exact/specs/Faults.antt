@@ -1,6 +1,4 @@
 -- What a fault of the numbers tells.
-use Rattle.std.specs.Prelude.{ℕ}
-use Rattle.exact.specs.declared.report.Layer.{Layer}
 use Rattle.exact.specs.declared.report.Layer.TheVariants.{Numbers}
 use Rattle.exact.specs.declared.report.Report.{Report}
 use Rattle.exact.specs.declared.fault.NumberFault.{NumberFault}

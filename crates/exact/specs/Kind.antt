@@ -1,5 +1,5 @@
 -- What a kind of numbers is, and the laws that it keeps.
-use Rattle.std.specs.Prelude.{◌≡◌, ℕ, ◌≤◌, Bool, true, T, ◌⊎◌, ◌↔◌, ℤ, pos, Some, None, Option, ◌≢◌, unsigned_abs}
+use Rattle.std.specs.Prelude.{◌≡◌, ◌≤◌, Bool, true, T, ◌⊎◌, ◌↔◌, ℤ, pos, Some, None, Option, ◌≢◌, unsigned_abs}
 use Rattle.exact.specs.Fraction.{Fraction, whole, plus, times, opposite, turned, Equal}
 
 -- what the functions of a kind go by

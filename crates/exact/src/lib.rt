@@ -1,4 +1,6 @@
 // Exact numbers: what a number kind is, and the laws that it keeps.
+#![tactic(auto)]
+
 pub mod fault;
 pub mod number;
 pub mod report;

@@ -1,4 +1,4 @@
-use Rattle.std.proofs.Common.{◌≡◌, sym, ap, ◌∙◌, w32}
+use Rattle.std.proofs.Common.{ap, ◌∙◌, w32}
 use mir.ValLaws.{to_z-of_z}
 use Rattle.exact.specs.Answers.{or_nil, whole_of, value_of}
 use Rattle.exact.proofs.value.value_of.Goals as goal

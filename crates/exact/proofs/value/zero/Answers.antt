@@ -1,5 +1,5 @@
 -- Every kind holds 0: the call cannot answer a fault, and the value is `nil`.
-use Rattle.std.proofs.Common.{◌≡◌, ℕ, pos, Ok, Err, Result, sym, ap, ◌∙◌, arith}
+use Rattle.std.proofs.Common.{◌≡◌, ℕ, Ok, Err, Result, ap, ◌∙◌, arith}
 use Rattle.exact.specs.declared.fault.NumberFault.{NumberFault}
 use Rattle.exact.specs.Answers.{held, whole_of}
 use Rattle.exact.proofs.value.zero.Goals as goal
