@@ -3,7 +3,7 @@ use Rattle.std.specs.Prelude.{◌≡◌, ℕ, List, [], ◌∷◌, map, ℤ, pos
 use Rattle.exact.specs.declared.fault.NumberFault.TheVariants.{Beyond}
 use Rattle.exact.specs.Fraction.{Fraction, fraction, whole}
 use Rattle.elimination.specs.declared.fault.Step.TheVariants.{Divide}
-use Rattle.stating.specs.declared.fault.SheetFault.TheVariants.{Numbers}
+use Rattle.elimination.specs.declared.fault.SheetFault.TheVariants.{Numbers}
 use Rattle.fractions.specs.Laws.{ratio_kind}
 use Rattle.residues.specs.ParityKind.{parity_kind}
 use Rattle.residues.specs.IndexKind.{index_kind}

@@ -2,9 +2,9 @@
 use Rattle.std.specs.Prelude.{ℕ, ◌+◌, ◌-◌, List, [], ◌∷◌, ◌++◌, map, length, ℤ, pos, Ok, Err, Result, slice_index_or}
 use Rattle.exact.specs.Fraction.{Fraction, whole, plus, times}
 use Rattle.exact.specs.Kind.{Kind}
-use Rattle.stating.specs.declared.fault.SheetFault.{SheetFault}
-use Rattle.stating.specs.declared.record.Record.{Record}
-use Rattle.stating.specs.Verdict.{Verdict, refused, follows, clash, taken}
+use Rattle.elimination.specs.declared.fault.SheetFault.{SheetFault}
+use Rattle.elimination.specs.declared.record.Record.{Record}
+use Rattle.elimination.specs.Steps.{Verdict, refused, follows, clash, taken}
 use Rattle.sheet.specs.declared.answer.Settled.{Settled}
 use Rattle.sheet.specs.declared.answer.Settled.TheVariants.{Value, NotSettled}
 use Rattle.sheet.specs.Contents.{Contents, verdict, after}

@@ -9,7 +9,8 @@ use Rattle.elimination.specs.declared.fault.Step.{Step}
 use Rattle.elimination.specs.declared.fault.Step.TheVariants.{Forward, Divide, Back}
 use Rattle.elimination.specs.declared.fault.StepFault.{StepFault}
 use Rattle.elimination.specs.Held.{HeldLine}
-use Rattle.elimination.specs.Steps.{located, then, found, forward, subject, with_row, back, rows_after, holding, solved_for, looked, reduced, work}
+use Rattle.elimination.specs.Steps.{located, then, forward, subject, with_row, back, rows_after, holding}
+use Rattle.elimination.specs.Outcome.{found, solved_for, looked, outcome_of, work}
 use Rattle.elimination.proofs.Walks.{made_from}
 
 located_sure : {X : Type 0} (s : Step) (p : ℕ) (r : Result X RowFault) → done r ≡ Ok tt → (x : X) × (located s p r ≡ Ok x)
@@ -60,4 +61,4 @@ module _ {V : Type 0} {K : Kind V} {admits : Fraction → Type 0} {alike : Fract
   unfolding work
   work_always n hs w f e =
       let x = forward_always 1 hs w in
-      looked_sure hs x.0 (subject K n (length hs) x.0) (subject_nonzero n (length hs) x.0 (ltb (length hs) n)) f (sym (ap (λ r. found (reduced K n hs r)) x.1) ∙ e)
+      looked_sure hs x.0 (subject K n (length hs) x.0) (subject_nonzero n (length hs) x.0 (ltb (length hs) n)) f (sym (ap (λ r. found (outcome_of K n hs r)) x.1) ∙ e)

@@ -7,3 +7,14 @@ mod Solving
 mod Subjects
 pub mod Always
 pub mod Shown
+pub mod Judging
+mod Copies
+mod Opening
+mod Refused
+mod Restated
+mod Sure
+mod Telling
+mod Tried
+mod Verdicts
+mod Worked
+mod Written

@@ -5,8 +5,8 @@ use Rattle.ledger.specs.declared.ledger.Ledger.{Ledger}
 use Rattle.ledger.specs.Listed.{Listed, listed, may_hold}
 use Rattle.elimination.specs.declared.fault.StepFault.{StepFault}
 use Rattle.elimination.specs.Held.{needed, used, fits, size_in, entries_in, row_at, held_lines, held_in, row_in}
-use Rattle.elimination.specs.Steps.{Outcome, stuck, spent, solved}
-use Rattle.elimination.specs.Working.{Answers, Holdable, Left, Remains}
+use Rattle.elimination.specs.Outcome.{Outcome, stuck, spent, solved}
+use Rattle.elimination.specs.Working.{Answers, HasPlace, Left, Remains}
 use Rattle.elimination.proofs.Frames.{held_length}
 use Rattle.elimination.proofs.Tests.{at_most, above, less}
 
@@ -32,7 +32,7 @@ module _ (l : Listed) (have : ℕ) where
   in_fit true q s h = ap (λ t. cond t (ltb q l.n) false) (less (length l.entries) l.n h) ∙ less q l.n s
   in_fit false q s h = absurd (omega arith)
 
-  pub holdable : (r : Result (Option ℕ) StepFault) → Answers (size_in l have) (length (entries_in l have)) r → Holdable l r
+  pub holdable : (r : Result (Option ℕ) StepFault) → Answers (size_in l have) (length (entries_in l have)) r → HasPlace l r
   holdable (Err f) p = tt
   holdable (Ok None) p = tt
   holdable (Ok (Some q)) p = in_fit (fits l have) q p.0 p.1

@@ -31,7 +31,7 @@ abbrev pub lines_place : (n : ℕ) → ℕ
 lines_place n = (n + 1) * wide n
 
 abbrev pub line_place : (n j : ℕ) → ℕ
-line_place n j = lines_place n + j * (n + 1)
+line_place n j = (n + 1) * wide n + j * (n + 1)
 
 abbrev pub row_at : {V : Type 0} → (n : ℕ) → List V → (j : ℕ) → List V
 row_at n m j = take (wide n) (drop (row_place n j) m)

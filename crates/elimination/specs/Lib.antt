@@ -1,3 +1,9 @@
+pub mod Again
+pub mod Faults
 pub mod Held
+pub mod Outcome
+pub mod Parts
+pub mod Refusals
+pub mod Stating
 pub mod Steps
 pub mod Working

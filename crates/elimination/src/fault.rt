@@ -1,3 +1,7 @@
+ghost use Rattle.std.specs.Prelude.{◌≡◌};
+ghost use Rattle.elimination.specs.Faults.{sheet_report, step_raised};
+
+use exact::report::{Layer, Report};
 use rows::fault::RowFault;
 
 // The steps of stating a line in which a number can be beyond those of the kind.
@@ -14,4 +18,72 @@ pub struct StepFault {
     pub step: Step,
     pub place: usize,
     pub row: RowFault,
+}
+
+// Why a call on a sheet is refused.
+#[derive(Clone, Copy, PartialEq, Eq, Debug)]
+pub enum SheetFault {
+    // n outside 1 to 48, or memory too short.
+    Size,
+    // A set point outside 1 to n.
+    SetPoint,
+    // A line that is not n + 1 numbers.
+    Length,
+    // Too few records or numbers handed over.
+    Room,
+    // A label outside 1 to 1,000,000.
+    Label,
+    // Eight trials are open already.
+    Depth,
+    // The trial is not the innermost open one of this sheet.
+    OtherTrial,
+    // A wait for this set point stands already.
+    Waiting,
+    // No wait for this set point stands.
+    NotWaiting,
+    // A number of a line outside its limits, at this position from 1.
+    Limit { position: usize },
+    // No values meet the line and the held ones; so many records tell why.
+    Clash { count: usize },
+    // A number beyond those of the kind.
+    Numbers(StepFault),
+}
+
+impl From<StepFault> for SheetFault {
+    ghost from_gives = { λ x r. r ≡ step_raised x };
+
+    fn from(stop: StepFault) -> SheetFault {
+        SheetFault::Numbers(stop)
+    }
+}
+
+impl SheetFault {
+    pub fn report(self) -> Report
+        ensures { result ≡ sheet_report self }
+    {
+        let (number, place) = match self {
+            SheetFault::Size => (1, 0),
+            SheetFault::SetPoint => (2, 0),
+            SheetFault::Length => (3, 0),
+            SheetFault::Room => (4, 0),
+            SheetFault::Label => (5, 0),
+            SheetFault::Depth => (6, 0),
+            SheetFault::OtherTrial => (7, 0),
+            SheetFault::Waiting => (8, 0),
+            SheetFault::NotWaiting => (9, 0),
+            SheetFault::Limit { position } => (20, position),
+            SheetFault::Clash { count: _ } => (21, 0),
+            SheetFault::Numbers(fault) => {
+                return Report {
+                    place: fault.row.column,
+                    ..fault.row.fault.report()
+                };
+            }
+        };
+        Report {
+            number,
+            layer: Layer::Sheet,
+            place,
+        }
+    }
 }

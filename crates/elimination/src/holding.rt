@@ -2,7 +2,7 @@ ghost use Rattle.std.specs.Prelude.{◌≡◌, ◌<◌, ◌≤◌, length, drop}
 ghost use Rattle.rows.specs.Row.{done};
 ghost use Rattle.elimination.specs.Held.{needed, lines_place, row_at, held_lines};
 ghost use Rattle.elimination.specs.Steps.{holding as held_rows};
-ghost use Rattle.elimination.specs.Working.{Holds};
+ghost use Rattle.elimination.specs.Working.{HoldsRows};
 
 use crate::backstep::{go_back, would_go_back};
 use crate::fault::{Step, StepFault};
@@ -23,7 +23,7 @@ pub(crate) fn hold<K: Number>(
     requires room { needed n ≤ length memory.old }
     requires column { q < n }
     ensures answer { result ≡ done (held_rows K.kind q (held_lines n memory.old 0 entries.now) (row_at n memory.old (length entries.now))) }
-    ensures rows { Holds (held_rows K.kind q (held_lines n memory.old 0 entries.now) (row_at n memory.old (length entries.now))) n entries.now memory.old memory.new }
+    ensures rows { HoldsRows (held_rows K.kind q (held_lines n memory.old 0 entries.now) (row_at n memory.old (length entries.now))) n entries.now memory.old memory.new }
     ensures lines { drop (lines_place n) memory.new ≡ drop (lines_place n) memory.old }
 {
     let width = 2 * n + 1;

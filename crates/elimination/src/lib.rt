@@ -1,7 +1,17 @@
-// Elimination: the steps over the rows of the held lines, in exact numbers of any kind.
+// Stating a line over the held ones by elimination, in exact numbers of any kind.
+#![tactic(auto)]
+
+mod again;
 mod backstep;
+mod bare;
+mod clash;
+pub mod course;
 pub mod fault;
-pub mod held;
 mod holding;
+mod places;
+pub mod record;
+mod refusals;
+pub mod restating;
+pub mod stating;
 mod steps;
 pub mod working;

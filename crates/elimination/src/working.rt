@@ -1,12 +1,13 @@
 ghost use Rattle.std.specs.Prelude.{◌≡◌, ◌≤◌, true, length, drop, Err, ◌≢◌};
 ghost use Rattle.ledger.specs.Listed.{listed};
 ghost use Rattle.elimination.specs.Held.{wide, needed, lines_place, row_at, held_lines, size_in};
-ghost use Rattle.elimination.specs.Steps.{subject, found, work as worked};
-ghost use Rattle.elimination.specs.Working.{Found, Answers, Left, working, Holdable, Remains};
+ghost use Rattle.elimination.specs.Steps.{subject};
+ghost use Rattle.elimination.specs.Outcome.{found, work as worked};
+ghost use Rattle.elimination.specs.Working.{Found, Answers, Left, working, HasPlace, Remains};
 ghost use Rattle.elimination.specs.declared.fault.StepFault.{StepFault as StepFaultOf};
 
 use crate::fault::StepFault;
-use crate::held::fitting;
+use crate::stating::fitting;
 use crate::holding::hold;
 use crate::steps::go_forward;
 use exact::number::Number;
@@ -59,7 +60,7 @@ fn solve<K: Number>(
 // the caller enters a line that has a subject.
 pub fn work<K: Number>(ledger: &Ledger, memory: &mut [K]) -> Result<Option<usize>, StepFault>
     ensures answer { result ≡ found (working K.kind (listed ledger.now) memory.old) }
-    ensures proper { Holdable (listed ledger.now) result }
+    ensures proper { HasPlace (listed ledger.now) result }
     ensures left { Remains (working K.kind (listed ledger.now) memory.old) (listed ledger.now) memory.old memory.new }
     ensures lines { drop (lines_place (size_in (listed ledger.now) (length memory.old))) memory.new ≡ drop (lines_place (size_in (listed ledger.now) (length memory.old))) memory.old }
     ensures always { K.complete ≡ true → (f : StepFaultOf) → result ≢ Err f }

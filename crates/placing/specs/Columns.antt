@@ -1,7 +1,7 @@
 -- Where the numbers of a line begin in the text.
 use Rattle.std.specs.Prelude.{ℕ, ◌+◌, ◌-◌, cond, List, [], ◌∷◌, ℤ, pos, ◌==◌, slice_index_or}
-use Rattle.stating.specs.declared.fault.SheetFault.{SheetFault}
-use Rattle.stating.specs.declared.fault.SheetFault.TheVariants.{Size, SetPoint, Length, Room, Label, Depth, OtherTrial, Waiting, NotWaiting, Limit, Clash, Numbers}
+use Rattle.elimination.specs.declared.fault.SheetFault.{SheetFault}
+use Rattle.elimination.specs.declared.fault.SheetFault.TheVariants.{Size, SetPoint, Length, Room, Label, Depth, OtherTrial, Waiting, NotWaiting, Limit, Clash, Numbers}
 use Rattle.reading.specs.declared.term.Term.{Term}
 use Rattle.reading.specs.Form.{Meaning}
 use Rattle.placing.specs.declared.fault.TextFault.{TextFault}

@@ -2,9 +2,9 @@
 use Rattle.std.specs.Prelude.{ℕ}
 use Rattle.exact.specs.declared.report.Layer.TheVariants as layer
 use Rattle.exact.specs.declared.report.Report.{Report}
-use Rattle.stating.specs.declared.fault.SheetFault.{SheetFault}
-use Rattle.stating.specs.declared.fault.SheetFault.TheVariants as sheet
-use Rattle.stating.specs.Faults.{sheet_report}
+use Rattle.elimination.specs.declared.fault.SheetFault.{SheetFault}
+use Rattle.elimination.specs.declared.fault.SheetFault.TheVariants as sheet
+use Rattle.elimination.specs.Faults.{sheet_report}
 use Rattle.cutting.specs.declared.heading.HeadingFault.{HeadingFault}
 use Rattle.cutting.specs.declared.heading.HeadingFault.TheVariants as heading
 use Rattle.printing.specs.declared.fault.PrintFault.{PrintFault}

@@ -1,6 +1,6 @@
 -- How an input begins.
 use Rattle.std.specs.Prelude.{◌≡◌, ℕ, ◌+◌, ◌<◌, ◌≤◌, List, [], ◌∷◌, length, Ok, Err, Result}
-use Rattle.stating.specs.declared.fault.SheetFault.TheVariants as sheet
+use Rattle.elimination.specs.declared.fault.SheetFault.TheVariants as sheet
 use Rattle.cutting.specs.declared.heading.Heading as head
 use Rattle.cutting.specs.declared.heading.HeadingFault.TheVariants as heading
 use Rattle.cutting.specs.declared.lines.Lines.{Lines}

@@ -1,4 +1,4 @@
-use stating::fault::SheetFault;
+use elimination::fault::SheetFault;
 
 // Why a text is refused. Columns count from 1.
 #[derive(Clone, Copy, PartialEq, Eq, Debug)]

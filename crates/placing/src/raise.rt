@@ -6,7 +6,7 @@ use cutting::heading::HeadingFault;
 use exact::report::{Layer, Report};
 use printing::fault::PrintFault;
 use reading::fault::FormFault;
-use stating::fault::SheetFault;
+use elimination::fault::SheetFault;
 
 impl From<FormFault> for TextFault {
     ghost from_gives = { λ x r. r ≡ form_raised x };

@@ -3,14 +3,14 @@ use Rattle.std.proofs.Common.{◌≡◌, ℕ, ◌+◌, ◌-◌, ◌≤◌, Bool,
 use Rattle.std.proofs.lemmas.List.{length-append, length-drop, take_at}
 use Rattle.exact.specs.Kind.{Kind}
 use Rattle.rows.specs.Row.{at}
-use Rattle.stating.specs.declared.fault.SheetFault.{SheetFault}
-use Rattle.stating.specs.declared.fault.SheetFault.TheVariants as sheet
-use Rattle.stating.specs.declared.record.Record.{Record}
+use Rattle.elimination.specs.declared.fault.SheetFault.{SheetFault}
+use Rattle.elimination.specs.declared.fault.SheetFault.TheVariants as sheet
+use Rattle.elimination.specs.declared.fault.StepFault.{StepFault}
+use Rattle.elimination.specs.declared.record.Record.{Record}
 use Rattle.elimination.specs.Held.{HeldLine}
-use Rattle.stating.specs.Refusals.{refusal, limited, over_limit, label_fits}
-use Rattle.stating.specs.Stating.{stating, unless, records_after}
-use Rattle.elimination.specs.Steps.{Outcome, stuck, spent, solved, work}
-use Rattle.stating.specs.Verdict.{Verdict, refused, follows, clash, taken, opening, judged, steps}
+use Rattle.elimination.specs.Refusals.{refusal, limited, over_limit, label_fits}
+use Rattle.elimination.specs.Stating.{stating, unless, records_after}
+use Rattle.elimination.specs.Steps.{Verdict, refused, follows, clash, taken, steps, reduced, judged, added, holding, forward, opening, subject}
 use Rattle.placing.specs.declared.fault.TextFault.{TextFault}
 use Rattle.placing.specs.declared.fault.TextFault.TheVariants.{Room, Form, Heading, OutsideSetPoint, TwiceSetPoint, TooLong, Sheet}
 use Rattle.placing.specs.Answers.{Refused}
@@ -51,18 +51,25 @@ plain_refusal n h line label room =
     refl
 
 module _ {V : Type 0} (K : Kind V) where
+  fair_added : (label : ℕ) (line : List V) (q : ℕ) (r : Result (List V × List (HeldLine V)) StepFault) → Fair (added K label line q r)
+  fair_added label line q (Ok rows) = tt
+  fair_added label line q (Err f) = refl
+
   fair_last : (b : Bool) (rs : List (Record V)) → Fair (cond b follows (clash rs))
   fair_last true rs = tt
   fair_last false rs = tt
 
-  fair_judged : (n : ℕ) (hs : List (HeldLine V)) (label : ℕ) (line : List V) (o : Outcome V) → Fair (judged K n hs label line o)
-  fair_judged n hs label line (stuck f) = refl
-  fair_judged n hs label line (spent w) = fair_last (K.is_zero (at K w n)) _
-  fair_judged n hs label line (solved q w gs) = tt
+  fair_judged : (n : ℕ) (hs : List (HeldLine V)) (label : ℕ) (line w : List V) (o : Option ℕ) → Fair (judged K n hs label line w o)
+  fair_judged n hs label line w (Some q) = fair_added label line q (holding K q hs w)
+  fair_judged n hs label line w None = fair_last (K.is_zero (at K w n)) _
+
+  fair_reduced : (n : ℕ) (hs : List (HeldLine V)) (label : ℕ) (line : List V) (r : Result (List V) StepFault) → Fair (reduced K n hs label line r)
+  fair_reduced n hs label line (Ok w) = fair_judged n hs label line w (subject K n (length hs) w)
+  fair_reduced n hs label line (Err f) = refl
 
   fair_steps : (n : ℕ) (hs : List (HeldLine V)) (label : ℕ) (line : List V) → Fair (steps K n hs label line)
   unfolding steps
-  fair_steps n hs label line = fair_judged n hs label line (work K n hs (opening K n (length hs) line))
+  fair_steps n hs label line = fair_reduced n hs label line (forward K 1 hs (opening K n (length hs) line))
 
 fair_unless : {V : Type 0} (r : Result Unit SheetFault) (v : Verdict V) → Plain r → Fair v → Fair (unless r v)
 fair_unless (Ok u) v p f = f

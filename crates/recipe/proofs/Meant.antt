@@ -2,9 +2,9 @@
 use Rattle.std.proofs.Common.{◌≡◌, ℕ, zero, suc, ◌+◌, ◌-◌, List, [], ◌∷◌, ◌++◌, length, take, drop, ℤ, Ok, Err, Result, sym, refl, ap, ◌∙◌, subst, inl, inr, arith}
 use Rattle.std.proofs.lemmas.List.{length-append, take_at}
 use Rattle.exact.specs.Kind.{Kind}
-use Rattle.stating.specs.declared.fault.SheetFault.{SheetFault}
-use Rattle.stating.specs.declared.record.Record.{Record}
-use Rattle.stating.specs.Stating.{records_after}
+use Rattle.elimination.specs.declared.fault.SheetFault.{SheetFault}
+use Rattle.elimination.specs.declared.record.Record.{Record}
+use Rattle.elimination.specs.Stating.{records_after}
 use Rattle.reading.specs.declared.line.Line.{Line}
 use Rattle.reading.specs.declared.term.Term.{Term}
 use Rattle.reading.specs.Form.{Meaning}

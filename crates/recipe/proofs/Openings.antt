@@ -1,7 +1,7 @@
 -- An input that is not opened is told in one row.
 use Rattle.std.proofs.Common.{◌≡◌, ℕ, ◌+◌, ◌⊎◌, List, [], ◌∷◌, ◌++◌, Ok, codes, decimal, sym, refl, ap, ◌∙◌, subst, inl, inr, lit<, lit≤}
 use Rattle.std.proofs.lemmas.Fmt.{decimal_digit, decimal_step}
-use Rattle.stating.specs.declared.fault.SheetFault.TheVariants as sheet
+use Rattle.elimination.specs.declared.fault.SheetFault.TheVariants as sheet
 use Rattle.cutting.specs.declared.lines.Lines.{Lines}
 use Rattle.cutting.specs.declared.heading.Heading as head
 use Rattle.cutting.specs.Lines.{lines, labelled}

@@ -1,8 +1,8 @@
 -- A sheet from its making to its settled set points.
 use Rattle.std.proofs.Common.{◌≡◌, ℕ, ◌+◌, ◌≤◌, Bool, true, false, cond, leb, List, [], ◌++◌, Ok, Err, Result, sym, refl, ap, ◌∙◌, subst, arith, le-leb}
 use Rattle.exact.specs.Kind.{Kind}
-use Rattle.stating.specs.declared.fault.SheetFault.{SheetFault}
-use Rattle.stating.specs.declared.fault.SheetFault.TheVariants.{Size}
+use Rattle.elimination.specs.declared.fault.SheetFault.{SheetFault}
+use Rattle.elimination.specs.declared.fault.SheetFault.TheVariants.{Size}
 use Rattle.elimination.specs.Held.{needed}
 use Rattle.sheet.specs.Contents.{Contents, size_fits, measured, size_made, fresh}
 use Rattle.recipe.specs.Run.{LinesDone, Adds, settled_rows, opened, SheetDone}

@@ -3,7 +3,7 @@ use Rattle.std.specs.Prelude.{◌≡◌, ℕ, List, ◌++◌, map, Ok, Err, Resu
 use Rattle.exact.specs.Fraction.{Fraction}
 use Rattle.exact.specs.Kind.{Kind}
 use Rattle.exact.specs.declared.shown.Parts.{Parts}
-use Rattle.stating.specs.declared.record.Record.{Record}
+use Rattle.elimination.specs.declared.record.Record.{Record}
 use Rattle.printing.specs.declared.entry.Entry.{Entry}
 
 -- the row stands at the end; for want of memory, all is as it was

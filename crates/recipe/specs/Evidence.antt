@@ -1,9 +1,9 @@
 -- How many records tell a clash.
 use Rattle.std.specs.Prelude.{◌≡◌, ℕ, ◌≤◌, List, take, Some, None, Ok, Err, Option, Result}
 use Rattle.exact.specs.Kind.{Kind}
-use Rattle.stating.specs.declared.fault.SheetFault.{SheetFault}
-use Rattle.stating.specs.declared.fault.SheetFault.TheVariants as sheet
-use Rattle.stating.specs.declared.record.Record.{Record}
+use Rattle.elimination.specs.declared.fault.SheetFault.{SheetFault}
+use Rattle.elimination.specs.declared.fault.SheetFault.TheVariants as sheet
+use Rattle.elimination.specs.declared.record.Record.{Record}
 use Rattle.placing.specs.declared.fault.TextFault.{TextFault}
 use Rattle.placing.specs.declared.fault.TextFault.TheVariants.{Room, Form, Heading, OutsideSetPoint, TwiceSetPoint, TooLong, Sheet}
 use Rattle.placing.specs.Faults.{text_report}

@@ -1,10 +1,10 @@
 -- What the lines of a recipe print, and what they make of the sheet.
 use Rattle.std.specs.Prelude.{◌≡◌, ℕ, zero, suc, ◌+◌, ◌⊎◌, List, [], ◌∷◌, ◌++◌, length, Ok, Err, Result}
 use Rattle.exact.specs.Kind.{Kind}
-use Rattle.stating.specs.declared.fault.SheetFault.{SheetFault}
-use Rattle.stating.specs.declared.record.Record.{Record}
-use Rattle.stating.specs.Stating.{records_after}
-use Rattle.stating.specs.Verdict.{Verdict, refused, follows, clash, taken}
+use Rattle.elimination.specs.declared.fault.SheetFault.{SheetFault}
+use Rattle.elimination.specs.declared.record.Record.{Record}
+use Rattle.elimination.specs.Stating.{records_after}
+use Rattle.elimination.specs.Steps.{Verdict, refused, follows, clash, taken}
 use Rattle.reading.specs.Form.{Meaning}
 use Rattle.reading.specs.Reading.{Reads}
 use Rattle.reading.specs.Steps.{means}

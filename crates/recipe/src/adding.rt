@@ -8,7 +8,7 @@ use printing::entry::Entry;
 use printing::row::{
     MOST_ENTRIES, ROW_BYTES, clash_row, follows_row, held_row, refused_row, settled_row,
 };
-use stating::record::Record;
+use elimination::record::Record;
 use std::alloc::AllocError;
 
 // Each adds one row to the output. The buffer suffices for any row, so none is refused.

@@ -6,8 +6,8 @@ use crate::adding::{add_clash, add_follows, add_held, add_refused};
 use exact::shown::Shown;
 use placing::fault::TextFault;
 use sheet::answer::Stated;
-use stating::fault::SheetFault;
-use stating::record::Record;
+use elimination::fault::SheetFault;
+use elimination::record::Record;
 use std::alloc::AllocError;
 
 // Adds the row of a line that was answered so.

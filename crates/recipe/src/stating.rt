@@ -7,7 +7,7 @@ use placing::fault::TextFault;
 use placing::numbers::read_numbers;
 use sheet::answer::Stated;
 use sheet::sheet::Sheet;
-use stating::record::Record;
+use elimination::record::Record;
 
 // The numbers of a line of the largest sheet.
 const MOST_NUMBERS: usize = 49;

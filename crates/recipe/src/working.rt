@@ -17,7 +17,7 @@ use residues::index::Index;
 use residues::parity::Parity;
 use sheet::sheet::Sheet;
 use sheet::size::measure;
-use stating::record::Record;
+use elimination::record::Record;
 use std::alloc::{AllocError, Global};
 
 // Works the lines after a heading, in the numbers of its kind.

@@ -7,14 +7,14 @@ use Rattle.std.proofs.lemmas.Bool.{false≢true, leb-true}
 use Rattle.std.proofs.lemmas.Bool.Decides.{nat_tests}
 use Rattle.exact.specs.Kind.{Kind}
 use Rattle.ledger.specs.Listed.{listed}
-use Rattle.stating.specs.declared.fault.SheetFault.{SheetFault}
+use Rattle.elimination.specs.declared.fault.SheetFault.{SheetFault}
 use Rattle.elimination.specs.declared.fault.StepFault.{StepFault}
-use Rattle.stating.specs.declared.fault.SheetFault.TheVariants.{Numbers}
-use Rattle.stating.specs.declared.record.Record.{Record}
+use Rattle.elimination.specs.declared.fault.SheetFault.TheVariants.{Numbers}
+use Rattle.elimination.specs.declared.record.Record.{Record}
 use Rattle.elimination.specs.Held.{used, size_in}
-use Rattle.stating.specs.Refusals.{label_fits}
-use Rattle.stating.specs.Stating.{records_after}
-use Rattle.stating.specs.Verdict.{Verdict}
+use Rattle.elimination.specs.Refusals.{label_fits}
+use Rattle.elimination.specs.Stating.{records_after}
+use Rattle.elimination.specs.Steps.{Verdict}
 use Rattle.sheet.specs.declared.answer.Stated.{Stated}
 use Rattle.sheet.specs.declared.sheet.Sheet.{Sheet}
 use Rattle.sheet.specs.Contents.{Contents, contents, verdict, stated, after}

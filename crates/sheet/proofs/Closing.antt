@@ -5,11 +5,11 @@ use Rattle.std.proofs.lemmas.Bool.Decides.{nat_tests}
 use Rattle.exact.specs.Kind.{Kind}
 use Rattle.ledger.specs.Marked.{may_push}
 use Rattle.rows.specs.Row.{done}
-use Rattle.stating.specs.declared.fault.SheetFault.{SheetFault}
-use Rattle.stating.specs.declared.fault.SheetFault.TheVariants.{Depth, OtherTrial}
-use Rattle.stating.specs.declared.record.Record.{Record}
-use Rattle.stating.specs.Stating.{records_after}
-use Rattle.stating.specs.Verdict.{Verdict}
+use Rattle.elimination.specs.declared.fault.SheetFault.{SheetFault}
+use Rattle.elimination.specs.declared.fault.SheetFault.TheVariants.{Depth, OtherTrial}
+use Rattle.elimination.specs.declared.record.Record.{Record}
+use Rattle.elimination.specs.Stating.{records_after}
+use Rattle.elimination.specs.Steps.{Verdict}
 use Rattle.sheet.specs.declared.trial.HandedBack.{HandedBack}
 use Rattle.sheet.specs.declared.trial.Trial.{Trial}
 use Rattle.sheet.specs.Contents.{Contents, with_marks, verdict, stated, after}

@@ -3,7 +3,7 @@ use Rattle.std.proofs.Common.{◌≡◌, ℕ, zero, suc, ◌<◌, ◌≤◌, Boo
 use native.Mathlib.Decide.{dec_le}
 use Rattle.ledger.specs.declared.entry.Entry.{Entry}
 use Rattle.ledger.specs.Listed.{Listed, empty}
-use Rattle.stating.specs.declared.fault.SheetFault.TheVariants.{Size}
+use Rattle.elimination.specs.declared.fault.SheetFault.TheVariants.{Size}
 use Rattle.elimination.specs.Held.{needed, size_in, entries_in, held_lines, held_in}
 use Rattle.elimination.proofs.Shown.{nothing_held}
 use Rattle.elimination.proofs.Tests.{at_most}

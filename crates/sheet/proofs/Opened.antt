@@ -3,7 +3,7 @@ use Rattle.std.proofs.Common.{◌≡◌, ℕ, ◌<◌, Bool, true, false, cond, 
 use Rattle.std.proofs.lemmas.Bool.Decides.{nat_tests}
 use Rattle.exact.specs.Kind.{Kind}
 use Rattle.ledger.specs.Marked.{newest_of, older}
-use Rattle.stating.specs.declared.fault.SheetFault.TheVariants.{OtherTrial}
+use Rattle.elimination.specs.declared.fault.SheetFault.TheVariants.{OtherTrial}
 use Rattle.sheet.specs.declared.trial.HandedBack.{HandedBack}
 use Rattle.sheet.specs.declared.trial.Trial.{Trial}
 use Rattle.sheet.specs.Contents.{Contents, with_marks}

@@ -1,13 +1,13 @@
 -- What the answer of a line tells of its verdict.
 use Rattle.std.proofs.Common.{◌≡◌, ℕ, ◌+◌, List, length, Ok, Err, Result, sym, refl, ap, ◌∙◌, subst, ap₂, arith}
 use Rattle.ledger.specs.Listed.{Listed, holding}
-use Rattle.stating.specs.declared.course.Course.{Course}
-use Rattle.stating.specs.declared.course.Course.TheVariants.{Follows, Taken}
-use Rattle.stating.specs.declared.fault.SheetFault.{SheetFault}
-use Rattle.stating.specs.declared.fault.SheetFault.TheVariants.{Clash}
+use Rattle.elimination.specs.declared.course.Course.{Course}
+use Rattle.elimination.specs.declared.course.Course.TheVariants.{Follows, Taken}
+use Rattle.elimination.specs.declared.fault.SheetFault.{SheetFault}
+use Rattle.elimination.specs.declared.fault.SheetFault.TheVariants.{Clash}
 use Rattle.elimination.specs.Held.{size_in, held_in}
-use Rattle.stating.specs.Stating.{course, held_after, entered}
-use Rattle.stating.specs.Verdict.{Verdict, refused, follows, clash, taken}
+use Rattle.elimination.specs.Stating.{course, held_after, entered}
+use Rattle.elimination.specs.Steps.{Verdict, refused, follows, clash, taken}
 use Rattle.sheet.specs.declared.answer.Stated.TheVariants as answer
 use Rattle.sheet.specs.Contents.{Contents, stated, after}
 

@@ -4,11 +4,11 @@ use Rattle.exact.specs.Kind.{Kind}
 use Rattle.ledger.specs.Listed.{listed}
 use Rattle.ledger.specs.Marked.{marked}
 use Rattle.ledger.specs.Waiting.{waiting}
-use Rattle.stating.specs.declared.fault.SheetFault.{SheetFault}
-use Rattle.stating.specs.declared.fault.SheetFault.TheVariants.{Size, Clash}
+use Rattle.elimination.specs.declared.fault.SheetFault.{SheetFault}
+use Rattle.elimination.specs.declared.fault.SheetFault.TheVariants.{Size, Clash}
 use Rattle.elimination.specs.Held.{HeldLine, needed, size_in, held_in}
-use Rattle.stating.specs.Stating.{stating, held_after}
-use Rattle.stating.specs.Verdict.{Verdict, refused, follows, clash, taken}
+use Rattle.elimination.specs.Stating.{stating, held_after}
+use Rattle.elimination.specs.Steps.{Verdict, refused, follows, clash, taken}
 use Rattle.sheet.specs.declared.answer.Stated.{Stated}
 use Rattle.sheet.specs.declared.answer.Stated.TheVariants.{Follows, Held}
 use Rattle.sheet.specs.declared.sheet.Sheet.{Sheet}

@@ -2,12 +2,12 @@
 use Rattle.std.specs.Prelude.{ℕ, zero, suc, ◌+◌, ◌/◌, ◌%◌, Bool, true, false, cond, List, [], ◌∷◌, length, take, drop, ℤ, Ok, Err, Result, ◌==◌, nat_le}
 use Rattle.exact.specs.Kind.{Kind}
 use Rattle.exact.specs.declared.report.Report.{Report}
-use Rattle.stating.specs.declared.fault.SheetFault.{SheetFault}
-use Rattle.stating.specs.declared.fault.SheetFault.TheVariants.{Length, Room, Label}
-use Rattle.stating.specs.declared.record.Record.{Record}
-use Rattle.stating.specs.Faults.{sheet_report}
-use Rattle.stating.specs.Refusals.{label_fits}
-use Rattle.stating.specs.Stating.{records_after}
+use Rattle.elimination.specs.declared.fault.SheetFault.{SheetFault}
+use Rattle.elimination.specs.declared.fault.SheetFault.TheVariants.{Length, Room, Label}
+use Rattle.elimination.specs.declared.record.Record.{Record}
+use Rattle.elimination.specs.Faults.{sheet_report}
+use Rattle.elimination.specs.Refusals.{label_fits}
+use Rattle.elimination.specs.Stating.{records_after}
 use Rattle.sheet.specs.declared.fault.ListFault.{ListFault}
 use Rattle.sheet.specs.Contents.{Contents, verdict, stated, after}
 

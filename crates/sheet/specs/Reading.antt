@@ -3,8 +3,8 @@ use Rattle.std.specs.Prelude.{ℕ, zero, suc, ◌+◌, ◌-◌, ◌<◌, Bool, t
 use Rattle.exact.specs.Kind.{Kind}
 use Rattle.ledger.specs.declared.entry.Entry.{Entry}
 use Rattle.rows.specs.Row.{at}
-use Rattle.stating.specs.declared.fault.SheetFault.{SheetFault}
-use Rattle.stating.specs.declared.fault.SheetFault.TheVariants.{SetPoint, Room}
+use Rattle.elimination.specs.declared.fault.SheetFault.{SheetFault}
+use Rattle.elimination.specs.declared.fault.SheetFault.TheVariants.{SetPoint, Room}
 use Rattle.elimination.specs.Held.{HeldLine}
 use Rattle.sheet.specs.declared.answer.Settled.{Settled}
 use Rattle.sheet.specs.declared.answer.Settled.TheVariants.{Value, NotSettled}

@@ -3,9 +3,9 @@ use Rattle.std.specs.Prelude.{ℕ, ◌+◌, Bool, false, cond, List, [], ◌∷�
 use Rattle.exact.specs.Kind.{Kind}
 use Rattle.ledger.specs.Marked.{may_push, older}
 use Rattle.rows.specs.Row.{done}
-use Rattle.stating.specs.Again.{restated}
-use Rattle.stating.specs.declared.fault.SheetFault.{SheetFault}
-use Rattle.stating.specs.declared.fault.SheetFault.TheVariants.{Depth, OtherTrial}
+use Rattle.elimination.specs.Again.{restated}
+use Rattle.elimination.specs.declared.fault.SheetFault.{SheetFault}
+use Rattle.elimination.specs.declared.fault.SheetFault.TheVariants.{Depth, OtherTrial}
 use Rattle.sheet.specs.declared.trial.Trial.{Trial}
 use Rattle.sheet.specs.declared.trial.HandedBack.{HandedBack}
 use Rattle.sheet.specs.Contents.{Contents, with_held, with_marks}

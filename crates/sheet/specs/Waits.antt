@@ -1,8 +1,8 @@
 -- Waiting for a set point, and taking a wait back.
 use Rattle.std.specs.Prelude.{ℕ, Bool, cond, not, Ok, Err, Result}
 use Rattle.ledger.specs.Waiting.{stands, placed, without}
-use Rattle.stating.specs.declared.fault.SheetFault.{SheetFault}
-use Rattle.stating.specs.declared.fault.SheetFault.TheVariants.{SetPoint, Waiting, NotWaiting}
+use Rattle.elimination.specs.declared.fault.SheetFault.{SheetFault}
+use Rattle.elimination.specs.declared.fault.SheetFault.TheVariants.{SetPoint, Waiting, NotWaiting}
 use Rattle.sheet.specs.Contents.{Contents, with_waits}
 use Rattle.sheet.specs.Reading.{is_set_point}
 

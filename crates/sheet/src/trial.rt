@@ -1,6 +1,6 @@
 ghost use Rattle.std.specs.Prelude.{◌≡◌};
 
-use stating::fault::SheetFault;
+use elimination::fault::SheetFault;
 
 // A trial that was opened on the sheet of this number, at this depth. Only `open` makes one, and only closing takes one apart. It can be
 // neither copied nor dropped, so a program that lets a trial go, or closes one twice, does not build.

@@ -2,8 +2,8 @@ use exact::value::zero;
 use fractions::ratio::Ratio;
 use sheet::answer::{Settled, Stated};
 use sheet::sheet::Sheet;
-use stating::fault::SheetFault;
-use stating::record::Record;
+use elimination::fault::SheetFault;
+use elimination::record::Record;
 use std::test::Fail;
 
 pub(crate) fn blank() -> Record<Ratio> {

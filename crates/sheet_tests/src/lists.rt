@@ -4,8 +4,8 @@ use fractions::ratio::Ratio;
 use sheet::answer::Stated;
 use sheet::fault::ListFault;
 use sheet::sheet::Sheet;
-use stating::fault::SheetFault;
-use stating::record::Record;
+use elimination::fault::SheetFault;
+use elimination::record::Record;
 use std::test::Fail;
 
 fn stopped(index: usize, fault: SheetFault) -> Result<usize, ListFault> {

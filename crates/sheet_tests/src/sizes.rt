@@ -3,8 +3,8 @@ use fractions::ratio::Ratio;
 use sheet::answer::Stated;
 use sheet::sheet::Sheet;
 use sheet::size::measure;
-use stating::fault::SheetFault;
-use stating::record::Record;
+use elimination::fault::SheetFault;
+use elimination::record::Record;
 use std::test::Fail;
 
 #[test]

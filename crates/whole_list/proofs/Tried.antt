@@ -2,8 +2,8 @@
 use Rattle.std.proofs.Common.{◌≡◌, ℕ, Bool, List, drop, ℤ, is_ok, Ok, Err, Result, sym, ap, ◌∙◌, subst, ap₂}
 use Rattle.exact.specs.Kind.{Kind}
 use Rattle.elimination.specs.Held.{used}
-use Rattle.stating.specs.declared.fault.SheetFault.{SheetFault}
-use Rattle.stating.specs.declared.record.Record.{Record}
+use Rattle.elimination.specs.declared.fault.SheetFault.{SheetFault}
+use Rattle.elimination.specs.declared.record.Record.{Record}
 use Rattle.sheet.specs.declared.fault.ListFault.{ListFault}
 use Rattle.sheet.specs.declared.trial.Trial.{Trial}
 use Rattle.sheet.specs.Contents.{Contents}

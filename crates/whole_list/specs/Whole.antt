@@ -1,8 +1,8 @@
 -- A list that is taken whole or not at all.
 use Rattle.std.specs.Prelude.{ℕ, Bool, cond, List, ℤ, is_ok, Ok, Err, Result}
 use Rattle.exact.specs.Kind.{Kind}
-use Rattle.stating.specs.declared.fault.SheetFault.{SheetFault}
-use Rattle.stating.specs.declared.record.Record.{Record}
+use Rattle.elimination.specs.declared.fault.SheetFault.{SheetFault}
+use Rattle.elimination.specs.declared.record.Record.{Record}
 use Rattle.sheet.specs.declared.trial.Trial.{Trial}
 use Rattle.sheet.specs.Contents.{Contents}
 use Rattle.sheet.specs.Listing.{Checked, checking}

@@ -7,7 +7,7 @@ ghost use Rattle.whole_list.specs.Whole.{checking_whole};
 use exact::number::Number;
 use sheet::fault::ListFault;
 use sheet::sheet::Sheet;
-use stating::record::Record;
+use elimination::record::Record;
 
 // Checks a list inside a trial, and answers what the check answered. Where every line passed, they stay; where one was refused, those
 // before it are taken back. With eight trials open the list is refused as a whole.

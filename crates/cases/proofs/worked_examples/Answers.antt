@@ -2,9 +2,8 @@
 use Rattle.std.proofs.Common.{refl}
 use Rattle.exact.specs.Answers.{whole_of, less_of, over_of, value_of}
 use Rattle.rows.specs.Row.{less_op, over_op, less_row, over_row, cleared}
-use Rattle.stating.specs.Refusals.{refusal}
-use Rattle.elimination.specs.Steps.{holding, work}
-use Rattle.stating.specs.Verdict.{steps}
+use Rattle.elimination.specs.Refusals.{refusal}
+use Rattle.elimination.specs.Steps.{holding, steps}
 use Rattle.sheet.specs.Reading.{settled_answer}
 use Rattle.fractions.specs.Gcd.{gcd_within, gcd}
 use Rattle.fractions.specs.Laws.{of_whole}
@@ -16,7 +15,7 @@ use Rattle.residues.specs.Rest.{rest, reciprocal}
 use Rattle.cases.proofs.worked_examples.Goals as goal
 
 pub returns : goal.returns
-unfolding whole_of less_of over_of value_of less_op over_op less_row over_row cleared refusal holding work steps settled_answer gcd_within gcd of_whole within made over value_of index parity residue_of rest reciprocal
+unfolding whole_of less_of over_of value_of less_op over_op less_row over_row cleared refusal holding steps settled_answer gcd_within gcd of_whole within made over value_of index parity residue_of rest reciprocal
 returns c = record {
   clashes = refl;
   sum_says = refl;

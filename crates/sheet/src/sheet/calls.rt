@@ -1,23 +1,23 @@
 ghost use Rattle.std.specs.Prelude.{◌≡◌, true, length, drop, Err, ◌≢◌};
 ghost use Rattle.elimination.specs.Held.{used};
-ghost use Rattle.stating.specs.Stating.{records_after};
+ghost use Rattle.elimination.specs.Stating.{records_after};
 ghost use Rattle.elimination.specs.declared.fault.StepFault.{StepFault as StepFaultOf};
-ghost use Rattle.stating.specs.declared.fault.SheetFault.TheVariants.{Numbers};
+ghost use Rattle.elimination.specs.declared.fault.SheetFault.TheVariants.{Numbers};
 ghost use Rattle.sheet.specs.Contents.{contents, fresh, verdict, stated, after};
 ghost use Rattle.sheet.specs.Reading.{settled_answer, solution_answer, solution_after};
 
 use super::Sheet;
 use crate::answer::{Settled, Stated};
 use crate::reading::{read_settled, write_solution};
-use elimination::held::fitting;
+use elimination::stating::fitting;
 use exact::number::Number;
 use ledger::ledger::Ledger;
 use ledger::marks::Marks;
 use ledger::waits::Waits;
-use stating::course::Course;
-use stating::fault::SheetFault;
-use stating::line::state_line;
-use stating::record::Record;
+use elimination::course::Course;
+use elimination::fault::SheetFault;
+use elimination::stating::state_line;
+use elimination::record::Record;
 
 impl<'a, K: Number> Sheet<'a, K> {
     // Never refuses: where n or the memory would not measure up, the sheet has no set point.

@@ -1,16 +1,16 @@
 ghost use Rattle.std.specs.Prelude.{◌≡◌, ℕ, ◌≤◌, true, length, drop, Err, ◌≢◌};
 ghost use Rattle.elimination.specs.Held.{used};
 ghost use Rattle.elimination.specs.declared.fault.StepFault.{StepFault as StepFaultOf};
-ghost use Rattle.stating.specs.declared.fault.SheetFault.TheVariants.{Numbers};
+ghost use Rattle.elimination.specs.declared.fault.SheetFault.TheVariants.{Numbers};
 ghost use Rattle.sheet.specs.Contents.{contents};
 ghost use Rattle.sheet.specs.Listing.{labels_fit, list_refusal, checking};
 
 use super::Sheet;
 use crate::fault::ListFault;
-use elimination::held::fitting;
+use elimination::stating::fitting;
 use exact::number::Number;
-use stating::fault::SheetFault;
-use stating::record::Record;
+use elimination::fault::SheetFault;
+use elimination::record::Record;
 
 const MOST_LINES: usize = 1_000;
 

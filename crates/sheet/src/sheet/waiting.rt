@@ -5,7 +5,7 @@ ghost use Rattle.sheet.specs.Waits.{wait_answer, wait_after, drop_answer, drop_a
 
 use super::Sheet;
 use exact::number::Number;
-use stating::fault::SheetFault;
+use elimination::fault::SheetFault;
 
 impl<'a, K: Number> Sheet<'a, K> {
     // Waits for the set point q, counted from 1 and settled or not. Refused where a wait for it stands.

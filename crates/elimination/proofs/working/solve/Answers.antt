@@ -3,8 +3,9 @@ use borrow.Author.Rules.{scaled_Fits}
 use Rattle.std.proofs.lemmas.Result.{err_from_is_err_and}
 use Rattle.rows.specs.Row.{done}
 use Rattle.elimination.specs.Held.{wide, row_place, row_at, held_lines}
-use Rattle.elimination.specs.Steps.{stuck, solved, found, forward, subject, holding, solved_for, looked, work}
-use Rattle.elimination.specs.Working.{Answers, Holds, Left}
+use Rattle.elimination.specs.Steps.{forward, subject, holding}
+use Rattle.elimination.specs.Outcome.{stuck, solved, found, solved_for, looked, work}
+use Rattle.elimination.specs.Working.{Answers, HoldsRows, Left}
 use Rattle.elimination.proofs.Frames.{held_length, only_held, only_lines}
 use Rattle.elimination.proofs.Places.{row_fits, row_is}
 use Rattle.elimination.proofs.Solving.{forward_stops, went_on}
@@ -89,7 +90,7 @@ returns-in-err-hold g c =
     let says : c.from-residual-in-err-hold.result ≡ Err f = p.1 ∙ ap Err p.2 in
     let stopped = made_err (holding K q hs v) f (ap (λ gs. done (holding K q gs v)) (sym kept) ∙ sym c.hold.ensures.answer ∙ c.in-err-hold.was) in
     let all : work K n hs w ≡ stuck f = went_on K n hs w v (Some q) went some ∙ ap (solved_for K q) stopped in
-    let rows : Holds (Err f) n es m₁ m₂ = subst (λ r. Holds r n es m₁ m₂) (ap (λ gs. holding K q gs v) kept ∙ stopped) c.hold.ensures.rows in
+    let rows : HoldsRows (Err f) n es m₁ m₂ = subst (λ r. HoldsRows r n es m₁ m₂) (ap (λ gs. holding K q gs v) kept ∙ stopped) c.hold.ensures.rows in
     record {
       answer = says ∙ sym (ap found all);
       proper = subst (Answers n h) (sym says) tt;
@@ -116,7 +117,7 @@ returns-in-ok-hold g c =
     let some : subject K n (length hs) v ≡ Some q = ap₂ (subject K n) (held_length n m 0 es) (sym (row_is n h m₁)) ∙ sym c.subject-of.ensures.answer ∙ c.in-Some.is in
     let made = made_from (holding K q hs v) (ap (λ gs. done (holding K q gs v)) (sym kept) ∙ sym c.hold.ensures.answer ∙ c.in-ok-hold.was) in
     let all : work K n hs w ≡ solved q made.0.0 made.0.1 = went_on K n hs w v (Some q) went some ∙ ap (solved_for K q) made.1 in
-    let rows : Holds (Ok made.0) n es m₁ m₂ = subst (λ r. Holds r n es m₁ m₂) (ap (λ gs. holding K q gs v) kept ∙ made.1) c.hold.ensures.rows in
+    let rows : HoldsRows (Ok made.0) n es m₁ m₂ = subst (λ r. HoldsRows r n es m₁ m₂) (ap (λ gs. holding K q gs v) kept ∙ made.1) c.hold.ensures.rows in
     record {
       answer = sym (ap found all);
       proper = c.in-Some.ensures.found;

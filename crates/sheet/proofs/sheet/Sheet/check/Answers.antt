@@ -1,6 +1,6 @@
 use Rattle.std.proofs.Common.{◌≡◌, ℕ, ◌+◌, ◌*◌, ◌/◌, ◌≤◌, length, Ok, Err, Result, sym, refl, ap, ◌∙◌, arith, rules}
-use Rattle.stating.specs.declared.fault.SheetFault.{SheetFault}
-use Rattle.stating.specs.declared.fault.SheetFault.TheVariants.{Numbers}
+use Rattle.elimination.specs.declared.fault.SheetFault.{SheetFault}
+use Rattle.elimination.specs.declared.fault.SheetFault.TheVariants.{Numbers}
 use Rattle.sheet.specs.declared.fault.ListFault.{ListFault}
 use Rattle.sheet.specs.Contents.{contents}
 use Rattle.sheet.proofs.Checking.{size_shown, low_labels, no_numbers, refused_whole, passed_whole, line_inside, line_is, begins, past, stops, goes_on, ends}

@@ -1,6 +1,6 @@
 use Rattle.std.proofs.Common.{◌≡◌, ℕ, Bool, true, false, cond, Ok, Err, sym, refl, ap, ◌∙◌, arith}
 use Rattle.ledger.specs.Marked.{older}
-use Rattle.stating.specs.declared.fault.SheetFault.TheVariants.{OtherTrial}
+use Rattle.elimination.specs.declared.fault.SheetFault.TheVariants.{OtherTrial}
 use Rattle.sheet.specs.Contents.{contents, with_marks}
 use Rattle.sheet.specs.Trials.{mark_of, closing, keep_after}
 use Rattle.sheet.proofs.Opened.{none_open, newest_none, newest_some}

@@ -1,6 +1,6 @@
 use Rattle.std.proofs.Common.{Ok, Err, sym, refl, ap, ◌∙◌}
 use Rattle.ledger.specs.Waiting.{stands, without}
-use Rattle.stating.specs.declared.fault.SheetFault.TheVariants.{SetPoint, NotWaiting}
+use Rattle.elimination.specs.declared.fault.SheetFault.TheVariants.{SetPoint, NotWaiting}
 use Rattle.sheet.specs.Contents.{contents, with_waits}
 use Rattle.sheet.specs.Reading.{is_set_point}
 use Rattle.sheet.specs.Waits.{drop_answer, drop_after}

@@ -1,6 +1,6 @@
 use Rattle.std.proofs.Common.{◌≡◌, Bool, cond, ◌∷◌, length, Ok, Err, sym, refl, ap, ◌∙◌, add-one}
 use Rattle.ledger.specs.Listed.{listed}
-use Rattle.stating.specs.declared.fault.SheetFault.TheVariants.{Depth}
+use Rattle.elimination.specs.declared.fault.SheetFault.TheVariants.{Depth}
 use Rattle.sheet.specs.Contents.{contents, with_marks}
 use Rattle.sheet.specs.Trials.{next_trial, open_answer, open_after}
 use Rattle.elimination.proofs.Shown.{held_count}

@@ -1,6 +1,6 @@
 use Rattle.std.proofs.Common.{◌≡◌, ℕ, ◌<◌, ◌≤◌, Bool, true, false, cond, leb, ◌++◌, length, drop, Ok, Err, sym, refl, ap, ◌∙◌, ap₂}
 use Rattle.ledger.specs.Listed.{listed}
-use Rattle.stating.specs.declared.fault.SheetFault.TheVariants.{Room}
+use Rattle.elimination.specs.declared.fault.SheetFault.TheVariants.{Room}
 use Rattle.elimination.proofs.Tests.{at_most, above}
 use Rattle.sheet.specs.Contents.{contents}
 use Rattle.sheet.specs.Reading.{solution_of, solution_answer, solution_after}

@@ -3,10 +3,10 @@ use Rattle.std.proofs.lemmas.Result.{err_from_is_err_and}
 use Rattle.ledger.specs.Listed.{listed, holding}
 use Rattle.ledger.specs.Marked.{marked}
 use Rattle.ledger.specs.Waiting.{waiting}
-use Rattle.stating.specs.declared.fault.SheetFault.{SheetFault}
-use Rattle.stating.specs.declared.fault.SheetFault.TheVariants.{Numbers}
+use Rattle.elimination.specs.declared.fault.SheetFault.{SheetFault}
+use Rattle.elimination.specs.declared.fault.SheetFault.TheVariants.{Numbers}
 use Rattle.elimination.specs.Held.{size_in, entries_in, held_in}
-use Rattle.stating.specs.Stating.{stating, course}
+use Rattle.elimination.specs.Stating.{stating, course}
 use Rattle.sheet.specs.declared.answer.Stated.{Stated}
 use Rattle.sheet.specs.declared.answer.Stated.TheVariants.{Held}
 use Rattle.sheet.specs.Contents.{Contents, contents, stated, verdict}

@@ -1,6 +1,6 @@
 use Rattle.std.proofs.Common.{◌≡◌, not, length, Ok, Err, sym, refl, ap, ◌∙◌}
 use Rattle.ledger.specs.Waiting.{stands, placed}
-use Rattle.stating.specs.declared.fault.SheetFault.TheVariants.{SetPoint, Waiting}
+use Rattle.elimination.specs.declared.fault.SheetFault.TheVariants.{SetPoint, Waiting}
 use Rattle.sheet.specs.Contents.{contents, with_waits}
 use Rattle.sheet.specs.Reading.{is_set_point}
 use Rattle.sheet.specs.Waits.{wait_answer, wait_after}

@@ -5,7 +5,7 @@ use Rattle.ledger.specs.Marked.{marked, older}
 use Rattle.ledger.specs.Waiting.{waiting}
 use Rattle.elimination.specs.Held.{needed, used, size_in, held_in}
 use Rattle.rows.specs.Row.{done}
-use Rattle.stating.specs.Again.{restated}
+use Rattle.elimination.specs.Again.{restated}
 use Rattle.sheet.specs.Contents.{Contents, contents, with_marks}
 use Rattle.sheet.specs.Trials.{mark_of}
 use Rattle.sheet.proofs.Opened.{refused_stays, closed_is}
