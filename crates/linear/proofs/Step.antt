@@ -81,15 +81,15 @@ module _ (𝓡 : Ring) (n : ℕ) where
     -- and the other rows are cleared at q
     module _ (space : h < cap) (fresh : (i : ℕ) → i < cap → l (m i) ≈ δ 𝓡 h i) (q : ℕ) (qn : q < n) (p : El) (inverse : left q ⊗ p ≈ 𝟙)
         (a' r' : ℕ → ℕ → El) (s' : ℕ → ℕ)
-        (lines_kept : (i u : ℕ) → i < h → u < suc n + cap → a' i u ≈ a i u) (line-added : (u : ℕ) → u < suc n + cap → a' h u ≈ l u)
-        (subjects-kept : (k : ℕ) → k < h → s' k ≡ s k) (subject-added : s' h ≡ q)
-        (rows-cleared : (j u : ℕ) → j < h → u < suc n + cap → r' j u ≈ r j u ⊕ neg (r j q ⊗ (left u ⊗ p))) (row-added : (u : ℕ) → u < suc n + cap → r' h u ≈ left u ⊗ p) where
+        (lines_kept : (i u : ℕ) → i < h → u < suc n + cap → a' i u ≈ a i u) (line_added : (u : ℕ) → u < suc n + cap → a' h u ≈ l u)
+        (subjects_kept : (k : ℕ) → k < h → s' k ≡ s k) (subject_added : s' h ≡ q)
+        (rows_cleared : (j u : ℕ) → j < h → u < suc n + cap → r' j u ≈ r j u ⊕ neg (r j q ⊗ (left u ⊗ p))) (row_added : (u : ℕ) → u < suc n + cap → r' h u ≈ left u ⊗ p) where
       subject' : (k : ℕ) → k < suc h → s' k < n
       subject' k b = go (below b)
         where
           go : (k < h) ⊎ (k ≡ h) → s' k < n
-          go (inl c) = subst⁻¹ (λ z. z < n) (subjects-kept k c) (subject k c)
-          go (inr e) = subst⁻¹ (λ z. s' z < n) e (subst⁻¹ (λ z. z < n) subject-added qn)
+          go (inl c) = subst⁻¹ (λ z. z < n) (subjects_kept k c) (subject k c)
+          go (inr e) = subst⁻¹ (λ z. s' z < n) e (subst⁻¹ (λ z. z < n) subject_added qn)
 
       wide : (k : ℕ) → k < h → s k < suc n + cap
       wide k b = let c : s k < n = subject k b in omega arith
@@ -98,31 +98,31 @@ module _ (𝓡 : Ring) (n : ℕ) where
       own' j k b c = go (below b) (below c)
         where
           old_at_old : (j k : ℕ) → j < h → k < h → r' j (s k) ≈ δ 𝓡 j k
-          old_at_old j k b c = tr (rows-cleared j (s k) b (wide k c)) (tr (add_cong (own j k b c) (neg_cong (mul_cong rf (mul_cong (left_subject k c) rf))))
+          old_at_old j k b c = tr (rows_cleared j (s k) b (wide k c)) (tr (add_cong (own j k b c) (neg_cong (mul_cong rf (mul_cong (left_subject k c) rf))))
               (solve 𝓡 (δ 𝓡 j k ∷ r j q ∷ p ∷ []) (v0 :- v1 :* (:0 :* v2)) v0 refl))
 
           old_at_new : (j : ℕ) → j < h → r' j q ≈ δ 𝓡 j h
-          old_at_new j b = tr (rows-cleared j q b (omega arith)) (tr (add_cong rf (neg_cong (tr (mul_cong rf inverse) (mul_one (r j q)))))
+          old_at_new j b = tr (rows_cleared j q b (omega arith)) (tr (add_cong rf (neg_cong (tr (mul_cong rf inverse) (mul_one (r j q)))))
               (tr (add_neg (r j q)) (sy (δ_apart 𝓡 (λ e. omega arith)))))
 
           new_at_old : (k : ℕ) → k < h → r' h (s k) ≈ δ 𝓡 h k
-          new_at_old k c = tr (row-added (s k) (wide k c)) (tr (mul_cong (left_subject k c) rf) (tr (zero_mul 𝓡 p) (sy (δ_apart 𝓡 (λ e. omega arith)))))
+          new_at_old k c = tr (row_added (s k) (wide k c)) (tr (mul_cong (left_subject k c) rf) (tr (zero_mul 𝓡 p) (sy (δ_apart 𝓡 (λ e. omega arith)))))
 
           new_at_new : r' h q ≈ δ 𝓡 h h
-          new_at_new = tr (row-added q (omega arith)) (tr inverse (sy (δ_same 𝓡 h)))
+          new_at_new = tr (row_added q (omega arith)) (tr inverse (sy (δ_same 𝓡 h)))
 
           go : (j < h) ⊎ (j ≡ h) → (k < h) ⊎ (k ≡ h) → r' j (s' k) ≈ δ 𝓡 j k
-          go (inl b) (inl c) = subst⁻¹ (λ z. r' j z ≈ δ 𝓡 j k) (subjects-kept k c) (old_at_old j k b c)
-          go (inl b) (inr e) = subst⁻¹ (λ z. r' j (s' z) ≈ δ 𝓡 j z) e (subst⁻¹ (λ z. r' j z ≈ δ 𝓡 j h) subject-added (old_at_new j b))
-          go (inr d) (inl c) = subst⁻¹ (λ z. r' z (s' k) ≈ δ 𝓡 z k) d (subst⁻¹ (λ z. r' h z ≈ δ 𝓡 h k) (subjects-kept k c) (new_at_old k c))
-          go (inr d) (inr e) = subst⁻¹ (λ z. r' z (s' k) ≈ δ 𝓡 z k) d (subst⁻¹ (λ z. r' h (s' z) ≈ δ 𝓡 h z) e (subst⁻¹ (λ z. r' h z ≈ δ 𝓡 h h) subject-added new_at_new))
+          go (inl b) (inl c) = subst⁻¹ (λ z. r' j z ≈ δ 𝓡 j k) (subjects_kept k c) (old_at_old j k b c)
+          go (inl b) (inr e) = subst⁻¹ (λ z. r' j (s' z) ≈ δ 𝓡 j z) e (subst⁻¹ (λ z. r' j z ≈ δ 𝓡 j h) subject_added (old_at_new j b))
+          go (inr d) (inl c) = subst⁻¹ (λ z. r' z (s' k) ≈ δ 𝓡 z k) d (subst⁻¹ (λ z. r' h z ≈ δ 𝓡 h k) (subjects_kept k c) (new_at_old k c))
+          go (inr d) (inr e) = subst⁻¹ (λ z. r' z (s' k) ≈ δ 𝓡 z k) d (subst⁻¹ (λ z. r' h (s' z) ≈ δ 𝓡 h z) e (subst⁻¹ (λ z. r' h z ≈ δ 𝓡 h h) subject_added new_at_new))
 
       unit' : (i i' : ℕ) → i < suc h → i' < cap → a' i (m i') ≈ δ 𝓡 i i'
       unit' i i' b c = go (below b)
         where
           go : (i < h) ⊎ (i ≡ h) → a' i (m i') ≈ δ 𝓡 i i'
           go (inl b) = tr (lines_kept i (m i') b (omega arith)) (unit i i' b c)
-          go (inr e) = subst⁻¹ (λ z. a' z (m i') ≈ δ 𝓡 z i') e (tr (line-added (m i') (omega arith)) (fresh i' c))
+          go (inr e) = subst⁻¹ (λ z. a' z (m i') ≈ δ 𝓡 z i') e (tr (line_added (m i') (omega arith)) (fresh i' c))
 
       left_blank : (i : ℕ) → suc h ≤ i → i < cap → left (m i) ≈ 𝟘
       left_blank i b c = tr (add_cong (tr (fresh i c) (δ_apart 𝓡 (λ e. omega arith)))
@@ -132,9 +132,9 @@ module _ (𝓡 : Ring) (n : ℕ) where
       blank' j i b c d = go (below b)
         where
           go : (j < h) ⊎ (j ≡ h) → r' j (m i) ≈ 𝟘
-          go (inl b) = tr (rows-cleared j (m i) b (omega arith)) (tr (add_cong (blank j i b (omega arith) d) (neg_cong (mul_cong rf (mul_cong (left_blank i c d) rf))))
+          go (inl b) = tr (rows_cleared j (m i) b (omega arith)) (tr (add_cong (blank j i b (omega arith) d) (neg_cong (mul_cong rf (mul_cong (left_blank i c d) rf))))
               (solve 𝓡 (r j q ∷ p ∷ []) (:0 :- v0 :* (:0 :* v1)) :0 refl))
-          go (inr e) = subst⁻¹ (λ z. r' z (m i) ≈ 𝟘) e (tr (row-added (m i) (omega arith)) (tr (mul_cong (left_blank i c d) rf) (zero_mul 𝓡 p)))
+          go (inr e) = subst⁻¹ (λ z. r' z (m i) ≈ 𝟘) e (tr (row_added (m i) (omega arith)) (tr (mul_cong (left_blank i c d) rf) (zero_mul 𝓡 p)))
 
       -- the new rows are their multipliers times the lines
       row_made : (j : ℕ) → j < h → Made (suc h) a' (r j)
@@ -142,7 +142,7 @@ module _ (𝓡 : Ring) (n : ℕ) where
           (sy (tr (add_cong rf (tr (mul_cong (blank j h b (omega arith) space) rf) (zero_mul 𝓡 (a' h u)))) (add_zero (∑ h (λ i. r j (m i) ⊗ a' i u))))))
 
       line_made : Made (suc h) a' l
-      line_made u d = tr (sy (line-added u (omega arith))) (sy (tr (sum_cong 𝓡 (suc h) (λ i c. mul_comm (l (m i)) (a' i u)))
+      line_made u d = tr (sy (line_added u (omega arith))) (sy (tr (sum_cong 𝓡 (suc h) (λ i c. mul_comm (l (m i)) (a' i u)))
           (sum_pick 𝓡 (suc h) h (λ i. a' i u) (λ i. l (m i)) (omega arith) (λ i c. fresh i (omega arith)))))
 
       left_all : Made (suc h) a' left
@@ -159,18 +159,18 @@ module _ (𝓡 : Ring) (n : ℕ) where
         where
           go : (j < h) ⊎ (j ≡ h) → r' j u ≈ ∑ (suc h) (λ i. r' j (m i) ⊗ a' i u)
           go (inl b) = made_cong (suc h) cap a' (r' j) (λ u. r j u ⊕ neg (r j q) ⊗ (left u ⊗ p)) (omega arith)
-              (λ u c. tr (rows-cleared j u b c) (add_cong rf (sy (neg_mul 𝓡 (r j q) (left u ⊗ p)))))
+              (λ u c. tr (rows_cleared j u b c) (add_cong rf (sy (neg_mul 𝓡 (r j q) (left u ⊗ p)))))
               (made_lin (suc h) a' (neg (r j q)) (r j) (λ u. left u ⊗ p) (row_made j b) new_made) u d
-          go (inr e) = subst⁻¹ (λ z. r' z u ≈ ∑ (suc h) (λ i. r' z (m i) ⊗ a' i u)) e (made_cong (suc h) cap a' (r' h) (λ u. left u ⊗ p) (omega arith) row-added new_made u d)
+          go (inr e) = subst⁻¹ (λ z. r' z u ≈ ∑ (suc h) (λ i. r' z (m i) ⊗ a' i u)) e (made_cong (suc h) cap a' (r' h) (λ u. left u ⊗ p) (omega arith) row_added new_made u d)
 
       -- the numbers of a line b at the new subjects, times the new rows
       new_shadow : (b b' : ℕ → El) → ((u : ℕ) → u < suc n + cap → b' u ≈ b u) → (u : ℕ) → u < suc n + cap →
           ∑ (suc h) (λ k. b' (s' k) ⊗ r' k u) ≈ ∑ h (λ k. b (s k) ⊗ r k u) ⊕ (b q ⊕ neg (∑ h (λ k. b (s k) ⊗ r k q))) ⊗ (left u ⊗ p)
-      new_shadow b b' e u d = tr (add_cong old (mul_cong (subst⁻¹ (λ z. b' z ≈ b q) subject-added (e q (omega arith))) (row-added u d)))
+      new_shadow b b' e u d = tr (add_cong old (mul_cong (subst⁻¹ (λ z. b' z ≈ b q) subject_added (e q (omega arith))) (row_added u d)))
           (solve 𝓡 (∑ h (λ k. b (s k) ⊗ r k u) ∷ (left u ⊗ p) ∷ ∑ h (λ k. b (s k) ⊗ r k q) ∷ b q ∷ []) ((v0 :+ :neg v1 :* v2) :+ v3 :* v1) (v0 :+ (v3 :- v2) :* v1) refl)
         where
           old : ∑ h (λ k. b' (s' k) ⊗ r' k u) ≈ ∑ h (λ k. b (s k) ⊗ r k u) ⊕ neg (left u ⊗ p) ⊗ ∑ h (λ k. b (s k) ⊗ r k q)
-          old = tr (sum_cong 𝓡 h (λ k c. tr (mul_cong (subst⁻¹ (λ z. b' z ≈ b (s k)) (subjects-kept k c) (e (s k) (wide k c))) (rows-cleared k u c d))
+          old = tr (sum_cong 𝓡 h (λ k c. tr (mul_cong (subst⁻¹ (λ z. b' z ≈ b (s k)) (subjects_kept k c) (e (s k) (wide k c))) (rows_cleared k u c d))
               (solve 𝓡 (b (s k) ∷ r k u ∷ r k q ∷ (left u ⊗ p) ∷ []) (v0 :* (v1 :- v2 :* v3)) (v0 :* v1 :+ :neg v3 :* (v0 :* v2)) refl)))
               (sum_lin 𝓡 h (neg (left u ⊗ p)) (λ k. b (s k) ⊗ r k u) (λ k. b (s k) ⊗ r k q))
 
@@ -181,7 +181,7 @@ module _ (𝓡 : Ring) (n : ℕ) where
           go (inl b) = tr (lines_kept i u b d) (sy (tr (new_shadow (a i) (a' i) (λ u c. lines_kept i u b c) u d)
               (tr (add_cong (sy (spans i u b d)) (mul_cong (add_cong rf (neg_cong (sy (spans i q b (omega arith))))) rf))
               (solve 𝓡 (a i u ∷ a i q ∷ (left u ⊗ p) ∷ []) (v0 :+ (v1 :- v1) :* v2) v0 refl))))
-          go (inr e) = subst⁻¹ (λ z. a' z u ≈ ∑ (suc h) (λ k. a' z (s' k) ⊗ r' k u)) e (tr (line-added u d) (sy (tr (new_shadow l (a' h) line-added u d)
+          go (inr e) = subst⁻¹ (λ z. a' z u ≈ ∑ (suc h) (λ k. a' z (s' k) ⊗ r' k u)) e (tr (line_added u d) (sy (tr (new_shadow l (a' h) line_added u d)
               (tr (add_cong rf (solve 𝓡 (left q ∷ left u ∷ p ∷ []) (v0 :* (v1 :* v2)) (v1 :* (v0 :* v2)) refl))
               (tr (add_cong rf (tr (mul_cong rf inverse) (mul_one (left u)))) (solve 𝓡 (∑ h (λ k. l (s k) ⊗ r k u) ∷ l u ∷ []) (v0 :+ (v1 :- v0)) v1 refl))))))
 

@@ -113,13 +113,13 @@ module _ {admits : Fraction → Type 0} {alike : Fraction → Fraction → Type 
 
     pub multipliers_unique : (w v : ℕ → Fraction) → ((i : ℕ) → admits (w i)) → ((i : ℕ) → admits (v i)) →
         ((u : ℕ) → u < n → alike (claim.combined ls w u) (claim.combined ls v u)) → (i : ℕ) → i < h → alike (w i) (v i)
-    multipliers_unique w v w-fine v-fine e = Sol.same_multipliers 𝓡 n cap h a row_n s 𝓢 w' v' same
+    multipliers_unique w v w_fine v_fine e = Sol.same_multipliers 𝓡 n cap h a row_n s 𝓢 w' v' same
       where
         w' : ℕ → Number 𝓚
-        w' i = record { told = w i; fine = w-fine i }
+        w' i = record { told = w i; fine = w_fine i }
 
         v' : ℕ → Number 𝓚
-        v' i = record { told = v i; fine = v-fine i }
+        v' i = record { told = v i; fine = v_fine i }
 
         same : (u : ℕ) → u < n → alike (combined_n w' u).told (combined_n v' u).told
         same u b =

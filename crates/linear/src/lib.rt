@@ -1,5 +1,7 @@
 // What the solved form of held lines says of their solutions, for the numbers of any kind. The theory stands in specs/ and proofs/; the
 // functions here only have its theorems as their contracts.
+#![tactic(auto)]
+
 ghost use Rattle.linear.specs.Theorems.{SameSolutions, SolutionsExist, SolvedIsFixed, LeastEvidence, FollowsOrStands, MultipliersUnique, StepKeepsSolved};
 
 use exact::number::Number;
