@@ -6,7 +6,7 @@ ghost use Rattle.elimination.specs.Parts.{OtherLines, taken_for, HasPlaceFor};
 ghost use Rattle.elimination.specs.Stating.{held_after, entered};
 ghost use Rattle.elimination.specs.Steps.{opening, steps};
 
-use crate::places::set_multipliers;
+use crate::laying::set_multipliers;
 use crate::stating::fitting;
 use crate::working::work;
 use exact::number::Number;

@@ -8,7 +8,7 @@ mod clash;
 pub mod course;
 pub mod fault;
 mod holding;
-mod places;
+mod laying;
 pub mod record;
 mod refusals;
 pub mod restating;

@@ -11,7 +11,7 @@ use crate::bare::state_bare;
 use crate::clash::tell_clash;
 use crate::course::Course;
 use crate::fault::SheetFault;
-use crate::places::{open_row, write_line};
+use crate::laying::{open_row, write_line};
 use crate::record::Record;
 use crate::refusals::pass;
 use crate::working::work;

@@ -7,8 +7,8 @@ ghost use Rattle.elimination.specs.Working.{Found, Answers, Left, working, HasPl
 ghost use Rattle.elimination.specs.declared.fault.StepFault.{StepFault as StepFaultOf};
 
 use crate::fault::StepFault;
-use crate::stating::fitting;
 use crate::holding::hold;
+use crate::stating::fitting;
 use crate::steps::go_forward;
 use exact::number::Number;
 use ledger::entry::Entry;

@@ -30,7 +30,7 @@ unreachable-requires g c =
     let opened = sym c.in-Ok.ensures.answer in
     let stays = still_open g.K.Number.kind S (contents c.open.new.self) a.list.now a.first a.records.now c.open.ensures.contents t opened T x.ensures.contents in
     let never = never_back S t opened T stays c.in-Err-closed.field-0 in
-    elim c.if-is-ok.branch [
+    elim c.if-is_ok.branch [
       | then-is-ok w ↦ never (sym w.keep-closed.ensures.answer ∙ sym w.closed-is ∙ c.in-Err-closed.is)
       | else-is-ok w ↦ never (sym w.withdraw-closed.ensures.answer ∙ sym w.closed-is ∙ c.in-Err-closed.is)
     ]
@@ -48,10 +48,10 @@ returns g c =
     let opened = sym c.in-Ok.ensures.answer in
     let comes_to = tried K (contents s) (contents s₁) a.list.now a.first a.records.now o.contents t opened (contents s₂) x.contents c.check-answer.result c.check-answer.new.records in
     let rest = past K (contents s) (contents s₁) a.list.now a.first a.records.now o.contents t opened (contents s₂) x.contents s.memory.now s₁.memory.now s₂.memory.now in
-    elim c.if-is-ok.branch [
+    elim c.if-is_ok.branch [
       | then-is-ok w ↦
           let y = w.keep-closed.ensures in
-          let d = comes_to _ x.answer x.records w.if-is-ok.ensures.value in
+          let d = comes_to _ x.answer x.records w.if-is_ok.ensures.value in
           record {
             answer = sym (ap (λ r. r.answer) d);
             contents = ap contents w.sheet-is ∙ y.contents ∙ sym (ap (λ r. r.contents) d);
@@ -61,7 +61,7 @@ returns g c =
           }
       | else-is-ok w ↦
           let y = w.withdraw-closed.ensures in
-          let d = comes_to _ x.answer x.records w.if-is-ok.ensures.value in
+          let d = comes_to _ x.answer x.records w.if-is_ok.ensures.value in
           record {
             answer = sym (ap (λ r. r.answer) d);
             contents = ap contents w.sheet-is ∙ y.contents ∙ sym (ap (λ r. r.contents) d);

@@ -15,8 +15,8 @@ use Rattle.elimination.proofs.Verdicts.{found_fault, found_none, found_some, spe
 use Rattle.elimination.proofs.Worked.{lines_kept, begun_held, verdict_is, taken_held}
 use Rattle.elimination.proofs.again.restate_line.Goals as goal
 
-pub open-row-again-requires : goal.open-row-again-requires
-open-row-again-requires g c =
+pub open_row_again-requires : goal.open_row_again-requires
+open_row_again-requires g c =
     let n = c.fitting-n.result.0 in
     let size = c.fitting-n.ensures.size in
     let place : c.args.place < n = subst (λ k. c.args.place < k) (sym size) c.requires.place in
@@ -27,8 +27,8 @@ open-row-again-requires g c =
       room = subst (λ k. k ≤ length c.args.memory.now) (used_all n (omega arith)) c.fitting-n.ensures.room;
     }
 
-pub move-line-requires : goal.move-line-requires
-move-line-requires g c =
+pub move_line-requires : goal.move_line-requires
+move_line-requires g c =
     let n = c.fitting-n.result.0 in
     let size = c.fitting-n.ensures.size in
     let place : c.args.place < n = subst (λ k. c.args.place < k) (sym size) c.requires.place in
@@ -36,7 +36,7 @@ move-line-requires g c =
       few = c.fitting-n.ensures.few;
       order = subst (λ xs. length xs ≤ c.args.place) (sym c.fitting-n.ensures.entries) c.requires.held;
       place = place;
-      room = subst (λ k. needed n ≤ k) (sym (c.work.auto.memory ∙ c.open-row-again.auto.memory)) (subst (λ k. k ≤ length c.args.memory.now) (used_all n (omega arith)) c.fitting-n.ensures.room);
+      room = subst (λ k. needed n ≤ k) (sym (c.work.auto.memory ∙ c.open_row_again.auto.memory)) (subst (λ k. k ≤ length c.args.memory.now) (used_all n (omega arith)) c.fitting-n.ensures.room);
     }
 
 pub returns-in-Some : goal.returns-in-Some
@@ -44,7 +44,7 @@ returns-in-Some g c =
     let K = g.K.Number.kind in
     let l = listed c.args.ledger.now in
     let m = c.args.memory.now in
-    let m₁ = c.open-row-again.new.memory in
+    let m₁ = c.open_row_again.new.memory in
     let m₂ = c.work.new.memory in
     let n = c.fitting-n.result.0 in
     let es = c.fitting-n.result.1.now in
@@ -54,15 +54,15 @@ returns-in-Some g c =
     let held = c.fitting-n.ensures.held in
     let place = c.args.place in
     let line = line_at n m place in
-    let same₁ = c.open-row-again.auto.memory in
-    let only = c.open-row-again.ensures.only in
-    let row = c.open-row-again.ensures.row in
+    let same₁ = c.open_row_again.auto.memory in
+    let only = c.open_row_again.ensures.only in
+    let row = c.open_row_again.ensures.row in
     let own : line_at N m place ≡ line = ap (λ k. line_at k m place) (sym size) in
     let lines = lines_kept K l m n es size entries held line m₁ same₁ only row m₂ c.work.ensures.lines in
     let later : drop (line_place n (place + 1)) m₂ ≡ drop (line_place n (place + 1)) m = rest_past (lines_place n) (line_place n (place + 1)) (omega arith) m₂ m lines in
-    let m₃ = c.move-line.new.memory in
+    let m₃ = c.move_line.new.memory in
     let same₂ = c.work.auto.memory ∙ same₁ in
-    let same₃ = c.move-line.auto.memory ∙ same₂ in
+    let same₃ = c.move_line.auto.memory ∙ same₂ in
     let q = c.in-Some.subject in
     let x = c.in-Ok.ensures in
     let may = subst (λ o. Findable l (Ok o)) c.in-Some.is x.proper in
@@ -71,12 +71,12 @@ returns-in-Some g c =
     let left : Remains (solved q out.0 out.1) l m₁ m₂ = subst (λ o. Remains o l m₁ m₂) out.2 x.left in
     let free = place_free l (length m) q (let b = c.requires.place in omega arith) may in
     let fewer : length es < n = subst (λ k. length es < k) (sym size) (subst (λ xs. length xs < N) (sym entries) free) in
-    let new = taken_held K l m n es size entries held line m₁ same₁ only row m₂ m₃ same₂ same₃ q out.0 out.1 left fewer c.move-line.ensures.others (c.move-line.ensures.line ∙ ap (λ l. take (n + 1) l) (rest_past (lines_place n) (line_place n place) (omega arith) m₂ m lines)) in
+    let new = taken_held K l m n es size entries held line m₁ same₁ only row m₂ m₃ same₂ same₃ q out.0 out.1 left fewer c.move_line.ensures.others (c.move_line.ensures.line ∙ ap (λ l. take (n + 1) l) (rest_past (lines_place n) (line_place n place) (omega arith) m₂ m lines)) in
     record {
       answer = λ label. sym (ap taken_for (is label));
       proper = may;
       held = λ label. subst (λ u. held_in (entered u label l) m₃ ≡ held_after u (held_in l m)) (sym (is label)) (new label);
-      later = subst (λ k. drop (line_place k (place + 1)) m₃ ≡ drop (line_place k (place + 1)) m) size (c.move-line.ensures.later ∙ later);
+      later = subst (λ k. drop (line_place k (place + 1)) m₃ ≡ drop (line_place k (place + 1)) m) size (c.move_line.ensures.later ∙ later);
     }
 
 pub returns-in-None : goal.returns-in-None
@@ -84,7 +84,7 @@ returns-in-None g c =
     let K = g.K.Number.kind in
     let l = listed c.args.ledger.now in
     let m = c.args.memory.now in
-    let m₁ = c.open-row-again.new.memory in
+    let m₁ = c.open_row_again.new.memory in
     let m₂ = c.work.new.memory in
     let n = c.fitting-n.result.0 in
     let es = c.fitting-n.result.1.now in
@@ -94,9 +94,9 @@ returns-in-None g c =
     let held = c.fitting-n.ensures.held in
     let place = c.args.place in
     let line = line_at n m place in
-    let same₁ = c.open-row-again.auto.memory in
-    let only = c.open-row-again.ensures.only in
-    let row = c.open-row-again.ensures.row in
+    let same₁ = c.open_row_again.auto.memory in
+    let only = c.open_row_again.ensures.only in
+    let row = c.open_row_again.ensures.row in
     let own : line_at N m place ≡ line = ap (λ k. line_at k m place) (sym size) in
     let lines = lines_kept K l m n es size entries held line m₁ same₁ only row m₂ c.work.ensures.lines in
     let later : drop (line_place n (place + 1)) m₂ ≡ drop (line_place n (place + 1)) m = rest_past (lines_place n) (line_place n (place + 1)) (omega arith) m₂ m lines in
@@ -119,7 +119,7 @@ returns-in-default g c =
     let K = g.K.Number.kind in
     let l = listed c.args.ledger.now in
     let m = c.args.memory.now in
-    let m₁ = c.open-row-again.new.memory in
+    let m₁ = c.open_row_again.new.memory in
     let m₂ = c.work.new.memory in
     let n = c.fitting-n.result.0 in
     let es = c.fitting-n.result.1.now in
@@ -129,9 +129,9 @@ returns-in-default g c =
     let held = c.fitting-n.ensures.held in
     let place = c.args.place in
     let line = line_at n m place in
-    let same₁ = c.open-row-again.auto.memory in
-    let only = c.open-row-again.ensures.only in
-    let row = c.open-row-again.ensures.row in
+    let same₁ = c.open_row_again.auto.memory in
+    let only = c.open_row_again.ensures.only in
+    let row = c.open_row_again.ensures.row in
     let own : line_at N m place ≡ line = ap (λ k. line_at k m place) (sym size) in
     let lines = lines_kept K l m n es size entries held line m₁ same₁ only row m₂ c.work.ensures.lines in
     let later : drop (line_place n (place + 1)) m₂ ≡ drop (line_place n (place + 1)) m = rest_past (lines_place n) (line_place n (place + 1)) (omega arith) m₂ m lines in

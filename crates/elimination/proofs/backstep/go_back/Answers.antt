@@ -33,9 +33,9 @@ loop-j-preserved g c =
     let room : needed n ≤ length m = omega arith in
     let fits : row_place n j + wide n ≤ length m = let f = row_fits n j (omega arith) in omega (arith, f) in
     let long : length v ≡ wide n = clear_length K q (row_at n m j) (row_at n m h) ∙ row_length n j m fits in
-    let e = located_ok Back (j + 1) (cleared K q (row_at n m j) (row_at n m h)) c.clear-row.result v c.clear-row.ensures.answer (clear_leaves K q (row_at n m j) (row_at n m h))
-    (sym c.at-place.ensures ∙ c.in-ok-at-place.was) in
-    subst (Gone K q n w es m₀ (j + 1)) (sym (c.clear-row.ensures.after ∙ put_row n m j v))
+    let e = located_ok Back (j + 1) (cleared K q (row_at n m j) (row_at n m h)) c.clear_row.result v c.clear_row.ensures.answer (clear_leaves K q (row_at n m j) (row_at n m h))
+    (sym c.at_place.ensures ∙ c.in_ok-at_place.was) in
+    subst (Gone K q n w es m₀ (j + 1)) (sym (c.clear_row.ensures.after ∙ put_row n m j v))
     (gone_more K q n w es m j c.loop-j-test.true c.requires.held room v long m₀ (ap (λ r. located Back (j + 1) (cleared K q (row_at n m j) r)) (sym same) ∙ e) c.loop-j.invariant)
 
 pub returns : goal.returns
@@ -46,8 +46,8 @@ returns g c =
     let e : c.loop-j.j ≡ h = omega arith in
     record { answer = sym (ap done all); made = leaves_ok _ _ all; rest = subst (λ i. drop (row_place a.n i) c.loop-j.memory ≡ drop (row_place a.n i) a.memory.now) e c.loop-j.invariant.rest }
 
-pub returns-in-err-at-place : goal.returns-in-err-at-place
-returns-in-err-at-place g c =
+pub returns-in_err-at_place : goal.returns-in_err-at_place
+returns-in_err-at_place g c =
     let K = g.K.Number.kind in
     let a = c.args in
     let n = a.n in
@@ -63,13 +63,13 @@ returns-in-err-at-place g c =
     let v = clear_swept K q (row_at n m j) (row_at n m h) in
     let fits : row_place n j + wide n ≤ length m = let b = row_fits n j (omega arith) in omega (arith, b) in
     let long : length v ≡ wide n = clear_length K q (row_at n m j) (row_at n m h) ∙ row_length n j m fits in
-    let f = c.in-err-at-place.field-0.0 in
-    let p = err_from_is_err_and c.from-residual.result c.from-residual.ensures.1 in
-    let e = located_err Back (j + 1) (cleared K q (row_at n m j) (row_at n m h)) c.clear-row.result f c.clear-row.ensures.answer (sym c.at-place.ensures ∙ c.in-err-at-place.was) in
+    let f = c.in_err-at_place.field-0.0 in
+    let p = err_from_is_err_and c.from_residual.result c.from_residual.ensures.1 in
+    let e = located_err Back (j + 1) (cleared K q (row_at n m j) (row_at n m h)) c.clear_row.result f c.clear_row.ensures.answer (sym c.at_place.ensures ∙ c.in_err-at_place.was) in
     let all = gone_stop K q n w es m j c.loop-j-test.true m₀ f (ap (λ r. located Back (j + 1) (cleared K q (row_at n m j) r)) (sym same) ∙ e) c.loop-j.invariant in
     record {
       answer = p.1 ∙ ap Err p.2 ∙ sym (ap done all);
       made = leaves_err _ f _ all;
-      rest = ap (drop (row_place n h)) (c.clear-row.ensures.after ∙ put_row n m j v) ∙ drop-put_mid (row_place n j) (wide n) m v (row_place n h) (omega (arith, up)) (omega arith) long
+      rest = ap (drop (row_place n h)) (c.clear_row.ensures.after ∙ put_row n m j v) ∙ drop-put_mid (row_place n j) (wide n) m v (row_place n h) (omega (arith, up)) (omega arith) long
           ∙ rest_past (row_place n j) (row_place n h) (omega (arith, up)) m m₀ c.loop-j.invariant.rest;
     }

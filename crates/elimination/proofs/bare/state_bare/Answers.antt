@@ -6,15 +6,15 @@ use Rattle.elimination.specs.Steps.{follows, clash, one}
 use Rattle.elimination.proofs.Verdicts.{bare_steps, first_written}
 use Rattle.elimination.proofs.bare.state_bare.Goals as goal
 
-pub returns-then-is-zero : goal.returns-then-is-zero
-returns-then-is-zero g c =
+pub returns-then-is_zero : goal.returns-then-is_zero
+returns-then-is_zero g c =
     let K = g.K.Number.kind in
     let a = c.args in
     let z = get_or a.line.now 0 (pos 0) in
     let fits : SFits w32 z = search rules in
-    let value : c.value-of-constant.result ≡ value_of K z = c.value-of-constant.ensures ∙ ap (value_of K) (to_z-of_z w32 z fits) in
+    let value : c.value_of-constant.result ≡ value_of K z = c.value_of-constant.ensures ∙ ap (value_of K) (to_z-of_z w32 z fits) in
     let e = bare_steps K a.label a.line.now c.requires.long ∙ ap (λ v. cond (K.is_zero v) follows (clash (record { place = 1; label = a.label; multiplier = one K } ∷ []))) (sym value)
-    ∙ ap (λ (b : Bool). cond b follows (clash (record { place = 1; label = a.label; multiplier = one K } ∷ []))) (sym c.if-is-zero.ensures) in
+    ∙ ap (λ (b : Bool). cond b follows (clash (record { place = 1; label = a.label; multiplier = one K } ∷ []))) (sym c.if-is_zero.ensures) in
     record { answer = sym (ap course e); untaken = tt; records = sym (ap (λ v. records_after v a.records.now) e) }
 
 pub returns : goal.returns
@@ -23,9 +23,9 @@ returns g c =
     let a = c.args in
     let z = get_or a.line.now 0 (pos 0) in
     let fits : SFits w32 z = search rules in
-    let value : c.value-of-constant.result ≡ value_of K z = c.value-of-constant.ensures ∙ ap (value_of K) (to_z-of_z w32 z fits) in
+    let value : c.value_of-constant.result ≡ value_of K z = c.value_of-constant.ensures ∙ ap (value_of K) (to_z-of_z w32 z fits) in
     let e = bare_steps K a.label a.line.now c.requires.long ∙ ap (λ v. cond (K.is_zero v) follows (clash (record { place = 1; label = a.label; multiplier = one K } ∷ []))) (sym value)
-    ∙ ap (λ (b : Bool). cond b follows (clash (record { place = 1; label = a.label; multiplier = one K } ∷ []))) (sym c.if-is-zero.ensures) in
+    ∙ ap (λ (b : Bool). cond b follows (clash (record { place = 1; label = a.label; multiplier = one K } ∷ []))) (sym c.if-is_zero.ensures) in
     record {
       answer = sym (ap course e);
       untaken = tt;

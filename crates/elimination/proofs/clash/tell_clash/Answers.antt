@@ -19,9 +19,9 @@ loop-j-preserved g c =
     let is = at_is K w (n + 1 + j) v (omega arith) c.index-w-n.is in
     let room : c.loop-j.count < length c.loop-j.records = let f = c.loop-j.invariant.few in omega arith in
     let t = c.loop-j.invariant in
-    elim c.if-not-is-zero.branch [
-      | then-not-is-zero x ↦ subst (λ k. Told K n w es old (j + 1) k c.if-not-is-zero.records) (sym x.count-is) (subst (λ rs. Told K n w es old (j + 1) (c.loop-j.count + 1) rs) (sym x.records-is) (told_more K n w es j h v is old c.loop-j.records c.loop-j.count room (sym x.if-not-is-zero.ensures) t))
-      | else-not-is-zero x ↦ subst (λ k. Told K n w es old (j + 1) k c.if-not-is-zero.records) (sym x.count-is) (subst (λ rs. Told K n w es old (j + 1) c.loop-j.count rs) (sym x.records-is) (told_none K n w es j h v is old c.loop-j.records c.loop-j.count (sym x.if-not-is-zero.ensures) t))
+    elim c.if-not-is_zero.branch [
+      | then-not-is-zero x ↦ subst (λ k. Told K n w es old (j + 1) k c.if-not-is_zero.records) (sym x.count-is) (subst (λ rs. Told K n w es old (j + 1) (c.loop-j.count + 1) rs) (sym x.records-is) (told_more K n w es j h v is old c.loop-j.records c.loop-j.count room (sym x.if-not-is_zero.ensures) t))
+      | else-not-is-zero x ↦ subst (λ k. Told K n w es old (j + 1) k c.if-not-is_zero.records) (sym x.count-is) (subst (λ rs. Told K n w es old (j + 1) c.loop-j.count rs) (sym x.records-is) (told_none K n w es j h v is old c.loop-j.records c.loop-j.count (sym x.if-not-is_zero.ensures) t))
     ]
 
 pub returns : goal.returns

@@ -38,18 +38,18 @@ pub loop-i-preserved : goal.loop-i-preserved
 loop-i-preserved c =
     let z = get_or c.args.line.now c.loop-i.i (pos 0) in
     let f : SFits w32 z = search rules in
-    let is : c.unsigned-abs.result ≡ nat_abs z = c.unsigned-abs.ensures.value ∙ ap nat_abs (to_z-of_z w32 z f) in
+    let is : c.unsigned_abs.result ≡ nat_abs z = c.unsigned_abs.ensures.value ∙ ap nat_abs (to_z-of_z w32 z f) in
     let most = limit_small c.args.n c.loop-i.i in
-    let l : nat_abs z ≤ limit c.args.n c.loop-i.i = omega (arith, is, c.limit-of.ensures, c.if-unsigned-abs-limit-of.false) in
+    let l : nat_abs z ≤ limit c.args.n c.loop-i.i = omega (arith, is, c.limit_of.ensures, c.if-unsigned_abs-limit_of.false) in
     (c.loop-i.invariant.0 ∙ within c.args.n c.loop-i.i c.args.line.now c.loop-i-test.true l, below_more _ _ c.loop-i.invariant.1 (omega (arith, l, most)))
 
 pub returns : goal.returns
 returns c = record { answer = sym (c.loop-i.invariant.0 ∙ at_drop_all (over_limit c.args.n c.loop-i.i) c.args.line.now c.loop-i.i c.loop-i-test.false); small = λ e u l. c.loop-i.invariant.1 u (omega arith) }
 
-pub returns-then-unsigned-abs-limit-of : goal.returns-then-unsigned-abs-limit-of
-returns-then-unsigned-abs-limit-of c =
+pub returns-then-unsigned_abs-limit_of : goal.returns-then-unsigned_abs-limit_of
+returns-then-unsigned_abs-limit_of c =
     let z = get_or c.args.line.now c.loop-i.i (pos 0) in
     let f : SFits w32 z = search rules in
-    let is : c.unsigned-abs.result ≡ nat_abs z = c.unsigned-abs.ensures.value ∙ ap nat_abs (to_z-of_z w32 z f) in
-    let l : limit c.args.n c.loop-i.i < nat_abs z = omega (arith, is, c.limit-of.ensures, c.if-unsigned-abs-limit-of.true) in
+    let is : c.unsigned_abs.result ≡ nat_abs z = c.unsigned_abs.ensures.value ∙ ap nat_abs (to_z-of_z w32 z f) in
+    let l : limit c.args.n c.loop-i.i < nat_abs z = omega (arith, is, c.limit_of.ensures, c.if-unsigned_abs-limit_of.true) in
     record { answer = sym (c.loop-i.invariant.0 ∙ out c.args.n c.loop-i.i c.args.line.now c.loop-i-test.true l); small = λ e. absurd (some_none _ e) }

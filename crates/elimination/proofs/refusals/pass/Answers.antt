@@ -20,18 +20,18 @@ returns-then-label-lt1 c =
     let long : length a.line.now ≡ a.n + 1 = omega arith in
     record { answer = sym (low_refused a.n a.h a.line.now a.label a.room long c.if-room-h.false c.if-label-lt1.true); passes = λ e. absurd (no_fault _ e) }
 
-pub returns-then-label-gt-LAST-LABEL : goal.returns-then-label-gt-LAST-LABEL
-returns-then-label-gt-LAST-LABEL c =
+pub returns-then-label-gt-LAST_LABEL : goal.returns-then-label-gt-LAST_LABEL
+returns-then-label-gt-LAST_LABEL c =
     let a = c.args in
     let long : length a.line.now ≡ a.n + 1 = omega arith in
-    record { answer = sym (high_refused a.n a.h a.line.now a.label a.room long c.if-room-h.false c.if-label-lt1.false c.if-label-gt-LAST-LABEL.true); passes = λ e. absurd (no_fault _ e) }
+    record { answer = sym (high_refused a.n a.h a.line.now a.label a.room long c.if-room-h.false c.if-label-lt1.false c.if-label-gt-LAST_LABEL.true); passes = λ e. absurd (no_fault _ e) }
 
 pub returns-in-None : goal.returns-in-None
 returns-in-None c =
     let a = c.args in
     let long : length a.line.now ≡ a.n + 1 = omega arith in
     record {
-      answer = sym (by_limits a.n a.h a.line.now a.label a.room long c.if-room-h.false c.if-label-lt1.false c.if-label-gt-LAST-LABEL.false ∙ ap limited (sym c.in-None.ensures.answer));
+      answer = sym (by_limits a.n a.h a.line.now a.label a.room long c.if-room-h.false c.if-label-lt1.false c.if-label-gt-LAST_LABEL.false ∙ ap limited (sym c.in-None.ensures.answer));
       passes = λ e. record { long = long; records = c.if-room-h.false; small = c.in-None.ensures.small refl };
     }
 
@@ -40,6 +40,6 @@ returns-in-Some c =
     let a = c.args in
     let long : length a.line.now ≡ a.n + 1 = omega arith in
     record {
-      answer = sym (by_limits a.n a.h a.line.now a.label a.room long c.if-room-h.false c.if-label-lt1.false c.if-label-gt-LAST-LABEL.false ∙ ap limited (sym c.in-Some.ensures.answer));
+      answer = sym (by_limits a.n a.h a.line.now a.label a.room long c.if-room-h.false c.if-label-lt1.false c.if-label-gt-LAST_LABEL.false ∙ ap limited (sym c.in-Some.ensures.answer));
       passes = λ e. absurd (no_fault _ e);
     }

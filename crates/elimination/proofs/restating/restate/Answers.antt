@@ -35,8 +35,8 @@ module _ (l l' : Ledger) (es : List Entry) (k n have i again : ℕ) where
     subst (λ x. i < x) (size ∙ sym (size_same (listed l') (listed l) have have (same_size l l' k e d) refl)) (omega arith),
   )
 
-pub restate-line-requires : goal.restate-line-requires
-restate-line-requires g c =
+pub restate_line-requires : goal.restate_line-requires
+restate_line-requires g c =
     let K = g.K.Number.kind in
     let l₀ = listed c.new.result in
     let m₀ = c.args.memory.now in
@@ -60,18 +60,18 @@ loop-place-preserved g c =
     let es = take c.min-again.result all in
     let l = listed c.loop-place.ledger in
     let m = c.loop-place.memory in
-    let m' = c.restate-line.new.memory in
+    let m' = c.restate_line.new.memory in
     let i = c.loop-place.place in
     let s = c.loop-place.invariant in
-    let x = c.restate-line.ensures in
+    let x = c.restate_line.ensures in
     let within : c.min-again.result ≤ length all = omega (arith, c.min-again.ensures) in
     let at = inside c.args.ledger.now c.new.result all c.set_points.result c.fitting.result.0 (length m₀) i c.min-again.result c.new.ensures c.set_points.ensures c.fitting.ensures.size c.fitting.ensures.held c.loop-place-test.true within in
     let label = (get_or es i blank).label in
     let same_label : (get_or all i blank).label ≡ label = ap (λ e. e.label) (sym (get_or-take c.min-again.result all i blank c.loop-place-test.true)) in
     let v = verdict K l₀ m₀ es i at.0 at.1 l m s in
-    let l' = listed c.match-restate-line.ledger in
-    let more : l' ≡ entered v label l → Gone K l₀ m₀ es (i + 1) l' m' = λ is. gone_more K l₀ m₀ es i at.0 at.1 l m s l' m' c.restate-line.auto.memory is (x.held label) x.later in
-    elim c.match-restate-line.branch [
+    let l' = listed c.match-restate_line.ledger in
+    let more : l' ≡ entered v label l → Gone K l₀ m₀ es (i + 1) l' m' = λ is. gone_more K l₀ m₀ es i at.0 at.1 l m s l' m' c.restate_line.auto.memory is (x.held label) x.later in
+    elim c.match-restate_line.branch [
       | in-Some+else-not-hold w ↦ more (ap listed w.ledger-is ∙ w.hold.ensures.after
           ∙ ap₂ (λ (b : Bool) j. cond b (holding j w.in-Some.subject l) l) w.if-not-hold.false same_label ∙ entered_taken v label w.in-Some.subject l (sym w.in-Some.is ∙ x.answer label))
       | in-default w ↦ more (ap listed w.ledger-is ∙ entered_none v label l (sym w.in-default.is ∙ x.answer label))

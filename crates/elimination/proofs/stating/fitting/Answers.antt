@@ -5,30 +5,30 @@ use Rattle.elimination.proofs.Places.{needed_small}
 use Rattle.elimination.proofs.Shown.{sound_size, shown, hidden}
 use Rattle.elimination.proofs.stating.fitting.Goals as goal
 
-pub overflow-add-n : goal.overflow-add-n
+pub overflow_add-n : goal.overflow_add-n
 unfolding listed
-overflow-add-n c = let s = c.args.ledger.now.sound in omega (arith, s.0, c.set-points-n.ensures)
+overflow_add-n c = let s = c.args.ledger.now.sound in omega (arith, s.0, c.set_points-n.ensures)
 
-pub overflow-mul-n : goal.overflow-mul-n
+pub overflow_mul-n : goal.overflow_mul-n
 unfolding listed
-overflow-mul-n c = let s = c.args.ledger.now.sound in omega (arith, s.0, c.set-points-n.ensures)
+overflow_mul-n c = let s = c.args.ledger.now.sound in omega (arith, s.0, c.set_points-n.ensures)
 
-pub overflow-add-n-2 : goal.overflow-add-n-2
+pub overflow_add-n-2 : goal.overflow_add-n-2
 unfolding listed
-overflow-add-n-2 c = let s = c.args.ledger.now.sound in omega (arith, s.0, c.set-points-n.ensures)
+overflow_add-n-2 c = let s = c.args.ledger.now.sound in omega (arith, s.0, c.set_points-n.ensures)
 
-pub overflow-mul-n-2 : goal.overflow-mul-n-2
+pub overflow_mul-n-2 : goal.overflow_mul-n-2
 unfolding listed
-overflow-mul-n-2 c =
+overflow_mul-n-2 c =
     let s = c.args.ledger.now.sound in
-    let few : c.set-points-n.result ≤ 48 = omega (arith, s.0, c.set-points-n.ensures) in
-    let small = needed_small c.set-points-n.result few in
+    let few : c.set_points-n.result ≤ 48 = omega (arith, s.0, c.set_points-n.ensures) in
+    let small = needed_small c.set_points-n.result few in
     omega (arith, small)
 
 pub returns-then-n-have : goal.returns-then-n-have
 returns-then-n-have c =
     let l = listed c.args.ledger.now in
-    let n = c.set-points-n.ensures in
+    let n = c.set_points-n.ensures in
     let es = c.entries-entries.ensures in
     let small = sound_size c.args.ledger.now in
     let s = shown l c.args.have (subst (λ k. needed k ≤ c.args.have) n c.if-n-have.true) in
@@ -43,6 +43,6 @@ returns-then-n-have c =
 pub returns : goal.returns
 returns c =
     let l = listed c.args.ledger.now in
-    let n = c.set-points-n.ensures in
+    let n = c.set_points-n.ensures in
     let h = hidden l c.args.have (subst (λ k. c.args.have < needed k) n c.if-n-have.false) in
     record { size = sym h.0; entries = sym h.1; few = omega arith; held = omega arith; room = omega arith }

@@ -20,17 +20,17 @@ use Rattle.elimination.proofs.Verdicts.{found_fault, found_none, found_some, spe
 use Rattle.elimination.proofs.Worked.{rest_used, rest_kept, begun_held, verdict_is, taken_held}
 use Rattle.elimination.proofs.stating.state_line.Goals as goal
 
-pub returns-in-err-pass : goal.returns-in-err-pass
-returns-in-err-pass g c =
+pub returns-in_err-pass : goal.returns-in_err-pass
+returns-in_err-pass g c =
     let K = g.K.Number.kind in
     let a = c.args in
     let l = listed a.ledger.now in
     let m = a.memory.now in
     let room = length a.records.now in
-    let f = c.in-err-pass.field-0.0 in
-    let p = err_from_is_err_and c.from-residual.result c.from-residual.ensures.1 in
-    let says : c.from-residual.result ≡ Err f = p.1 ∙ ap Err p.2 in
-    let e = verdict_refused K l m a.line.now a.label room c.fitting-n.result.0 c.fitting-n.result.1.now c.fitting-n.ensures.size c.fitting-n.ensures.entries f (sym c.pass.ensures.answer ∙ c.in-err-pass.was) in
+    let f = c.in_err-pass.field-0.0 in
+    let p = err_from_is_err_and c.from_residual.result c.from_residual.ensures.1 in
+    let says : c.from_residual.result ≡ Err f = p.1 ∙ ap Err p.2 in
+    let e = verdict_refused K l m a.line.now a.label room c.fitting-n.result.0 c.fitting-n.result.1.now c.fitting-n.ensures.size c.fitting-n.ensures.entries f (sym c.pass.ensures.answer ∙ c.in_err-pass.was) in
     record {
       answer = says ∙ sym (ap course e);
       proper = subst (Holdable l) (sym says) tt;
@@ -54,26 +54,26 @@ returns-then-n-eq0 g c =
     let z = c.if-n-eq0.true in
     let none = none_held l m n es size entries c.fitting-n.ensures.held z in
     let values = map (value_of K) a.line.now in
-    let e = verdict_steps K l m a.line.now a.label room n es size entries (sym c.pass.ensures.answer ∙ c.in-ok-pass.was)
+    let e = verdict_steps K l m a.line.now a.label room n es size entries (sym c.pass.ensures.answer ∙ c.in_ok-pass.was)
     ∙ ap₂ (λ k hs. steps K k hs a.label values) (sym size ∙ z) none in
-    let x = c.state-bare.ensures in
+    let x = c.state_bare.ensures in
     let v = stating K (size_in l (length m)) (held_in l m) a.line.now a.label room in
-    let says : c.state-bare.result ≡ course v = x.answer ∙ sym (ap course e) in
-    let unmoved = bare_unmoved K a.label a.line.now ((c.in-ok-pass.ensures.passes refl).long ∙ ap (λ k. k + 1) z) l (held_in l m) in
+    let says : c.state_bare.result ≡ course v = x.answer ∙ sym (ap course e) in
+    let unmoved = bare_unmoved K a.label a.line.now ((c.in_ok-pass.ensures.passes refl).long ∙ ap (λ k. k + 1) z) l (held_in l m) in
     record {
       answer = says;
-      proper = untaken_holdable l c.state-bare.result x.untaken;
+      proper = untaken_holdable l c.state_bare.result x.untaken;
       held = ap (λ u. held_in (entered u a.label l) m) e ∙ ap (λ t. held_in t m) unmoved.0 ∙ sym unmoved.1 ∙ ap (λ u. held_after u (held_in l m)) (sym e);
       records = x.records ∙ sym (ap (λ u. records_after u a.records.now) e);
       rest = refl;
       always = λ all f' d. stating_sure g.K.Number.laws all (size_in l (length m)) (held_in l m) a.line.now a.label room f' (sym says ∙ d);
     }
 
-pub open-row-requires : goal.open-row-requires
-open-row-requires g c =
+pub open_row-requires : goal.open_row-requires
+open_row-requires g c =
     let n = c.fitting-n.result.0 in
     let z = c.if-n-eq0.false in
-    let passes = c.in-ok-pass.ensures.passes refl in
+    let passes = c.in_ok-pass.ensures.passes refl in
     record {
       few = c.fitting-n.ensures.few;
       place = c.fitting-n.ensures.held;
@@ -82,26 +82,26 @@ open-row-requires g c =
       small = passes.small;
     }
 
-pub write-line-requires : goal.write-line-requires
-write-line-requires g c =
+pub write_line-requires : goal.write_line-requires
+write_line-requires g c =
     let l = listed c.args.ledger.now in
     let m = c.args.memory.now in
     let n = c.fitting-n.result.0 in
     let z = c.if-n-eq0.false in
-    let passes = c.in-ok-pass.ensures.passes refl in
+    let passes = c.in_ok-pass.ensures.passes refl in
     let some : 0 < size_in l (length m) = subst (λ k. 0 < k) c.fitting-n.ensures.size (omega (arith, z)) in
-    let may = subst (Findable l) (c.in-ok-subject.was ∙ ap Ok c.in-Some.is) c.work.ensures.proper in
+    let may = subst (Findable l) (c.in_ok-subject.was ∙ ap Ok c.in-Some.is) c.work.ensures.proper in
     let free = place_free l (length m) c.in-Some.subject some may in
     record {
       few = c.fitting-n.ensures.few;
       place = subst (λ k. length c.fitting-n.result.1.now < k) (sym c.fitting-n.ensures.size) (subst (λ xs. length xs < size_in l (length m)) (sym c.fitting-n.ensures.entries) free);
-      room = subst (λ k. needed n ≤ k) (sym (c.work.auto.memory ∙ c.open-row.auto.memory)) (subst (λ k. k ≤ length m) (used_all n (omega (arith, z))) c.fitting-n.ensures.room);
+      room = subst (λ k. needed n ≤ k) (sym (c.work.auto.memory ∙ c.open_row.auto.memory)) (subst (λ k. k ≤ length m) (used_all n (omega (arith, z))) c.fitting-n.ensures.room);
       long = passes.long;
       small = passes.small;
     }
 
-pub offset-bounds-memory-at : goal.offset-bounds-memory-at
-offset-bounds-memory-at g c =
+pub offset_bounds-memory-at : goal.offset_bounds-memory-at
+offset_bounds-memory-at g c =
     let n = c.fitting-n.result.0 in
     let h = length c.fitting-n.result.1.now in
     let z = c.if-n-eq0.false in
@@ -110,8 +110,8 @@ offset-bounds-memory-at g c =
     let place : row_place n h < length c.args.memory.now = omega (arith, f, room) in
     search (scaled_Fits, place, c.well-formed)
 
-pub slice-bounds-spent-end : goal.slice-bounds-spent-end
-slice-bounds-spent-end g c =
+pub slice_bounds-spent-end : goal.slice_bounds-spent-end
+slice_bounds-spent-end g c =
     let n = c.fitting-n.result.0 in
     let h = length c.fitting-n.result.1.now in
     let z = c.if-n-eq0.false in
@@ -120,13 +120,13 @@ slice-bounds-spent-end g c =
     let inside : row_place n h + wide n ≤ length c.work.new.memory = omega (arith, f, room) in
     search rules
 
-pub returns-in-err-subject : goal.returns-in-err-subject
-returns-in-err-subject g c =
+pub returns-in_err-subject : goal.returns-in_err-subject
+returns-in_err-subject g c =
     let K = g.K.Number.kind in
     let a = c.args in
     let l = listed a.ledger.now in
     let m = a.memory.now in
-    let m₁ = c.open-row.new.memory in
+    let m₁ = c.open_row.new.memory in
     let m₂ = c.work.new.memory in
     let room = length a.records.now in
     let n = c.fitting-n.result.0 in
@@ -135,14 +135,14 @@ returns-in-err-subject g c =
     let entries = c.fitting-n.ensures.entries in
     let held = c.fitting-n.ensures.held in
     let line = map (value_of K) a.line.now in
-    let same₁ = c.open-row.auto.memory in
-    let only = c.open-row.ensures.only in
-    let row = c.open-row.ensures.row in
-    let f = c.in-err-subject.field-0.0 in
-    let p = err_from_is_err_and c.from-residual-in-err-subject.result c.from-residual-in-err-subject.ensures.1 in
-    let says : c.from-residual-in-err-subject.result ≡ Err (Numbers f) = p.1 ∙ ap Err p.2 in
-    let out = found_fault (working K l m₁) f (sym c.work.ensures.answer ∙ c.in-err-subject.was) in
-    let e = verdict_steps K l m a.line.now a.label room n es size entries (sym c.pass.ensures.answer ∙ c.in-ok-pass.was)
+    let same₁ = c.open_row.auto.memory in
+    let only = c.open_row.ensures.only in
+    let row = c.open_row.ensures.row in
+    let f = c.in_err-subject.field-0.0 in
+    let p = err_from_is_err_and c.from_residual-in_err-subject.result c.from_residual-in_err-subject.ensures.1 in
+    let says : c.from_residual-in_err-subject.result ≡ Err (Numbers f) = p.1 ∙ ap Err p.2 in
+    let out = found_fault (working K l m₁) f (sym c.work.ensures.answer ∙ c.in_err-subject.was) in
+    let e = verdict_steps K l m a.line.now a.label room n es size entries (sym c.pass.ensures.answer ∙ c.in_ok-pass.was)
     ∙ verdict_is K l m n es size entries held line m₁ same₁ only row a.label ∙ ap (verdict_of K (size_in l (length m)) (held_in l m) a.label line) out in
     let left : held_in l m₂ ≡ held_in l m₁ = subst (λ o. Remains o l m₁ m₂) out c.work.ensures.left in
     let kept : held_in l m₂ ≡ held_in l m = left ∙ begun_held K l m n es size entries held line m₁ same₁ only row in
@@ -162,9 +162,9 @@ returns-in-Some g c =
     let a = c.args in
     let l = listed a.ledger.now in
     let m = a.memory.now in
-    let m₁ = c.open-row.new.memory in
+    let m₁ = c.open_row.new.memory in
     let m₂ = c.work.new.memory in
-    let m₃ = c.write-line.new.memory in
+    let m₃ = c.write_line.new.memory in
     let room = length a.records.now in
     let n = c.fitting-n.result.0 in
     let es = c.fitting-n.result.1.now in
@@ -172,28 +172,28 @@ returns-in-Some g c =
     let entries = c.fitting-n.ensures.entries in
     let held = c.fitting-n.ensures.held in
     let line = map (value_of K) a.line.now in
-    let same₁ = c.open-row.auto.memory in
+    let same₁ = c.open_row.auto.memory in
     let same₂ = c.work.auto.memory ∙ same₁ in
-    let same₃ = c.write-line.auto.memory ∙ same₂ in
-    let only = c.open-row.ensures.only in
-    let row = c.open-row.ensures.row in
+    let same₃ = c.write_line.auto.memory ∙ same₂ in
+    let only = c.open_row.ensures.only in
+    let row = c.open_row.ensures.row in
     let q = c.in-Some.subject in
     let some : 0 < n = let z = c.if-n-eq0.false in omega (arith, z) in
-    let says = c.in-ok-subject.was ∙ ap Ok c.in-Some.is in
+    let says = c.in_ok-subject.was ∙ ap Ok c.in-Some.is in
     let may = subst (Findable l) says c.work.ensures.proper in
     let free = place_free l (length m) q (subst (λ k. 0 < k) size some) may in
     let place : length es < n = subst (λ k. length es < k) (sym size) (subst (λ xs. length xs < size_in l (length m)) (sym entries) free) in
     let out = found_some (working K l m₁) q (sym c.work.ensures.answer ∙ says) in
-    let e = verdict_steps K l m a.line.now a.label room n es size entries (sym c.pass.ensures.answer ∙ c.in-ok-pass.was)
+    let e = verdict_steps K l m a.line.now a.label room n es size entries (sym c.pass.ensures.answer ∙ c.in_ok-pass.was)
     ∙ verdict_is K l m n es size entries held line m₁ same₁ only row a.label ∙ ap (verdict_of K (size_in l (length m)) (held_in l m) a.label line) out.2 in
     let left : Remains (solved q out.0 out.1) l m₁ m₂ = subst (λ o. Remains o l m₁ m₂) out.2 c.work.ensures.left in
-    let new = taken_held K l m n es size entries held line m₁ same₁ only row m₂ m₃ same₂ same₃ q out.0 out.1 left place c.write-line.ensures.others c.write-line.ensures.line a.label in
+    let new = taken_held K l m n es size entries held line m₁ same₁ only row m₂ m₃ same₂ same₃ q out.0 out.1 left place c.write_line.ensures.others c.write_line.ensures.line a.label in
     record {
       answer = sym (ap course e);
       proper = may;
       held = subst (λ v. held_in (entered v a.label l) m₃ ≡ held_after v (held_in l m)) (sym e) new;
       records = sym (ap (λ v. records_after v a.records.now) e);
-      rest = rest_used K l m n es size entries held line m₃ some (c.write-line.ensures.rest ∙ rest_kept K l m n es size entries held line m₁ same₁ only row m₂ c.work.ensures.lines);
+      rest = rest_used K l m n es size entries held line m₃ some (c.write_line.ensures.rest ∙ rest_kept K l m n es size entries held line m₁ same₁ only row m₂ c.work.ensures.lines);
       always = λ all f' d. stating_sure g.K.Number.laws all (size_in l (length m)) (held_in l m) a.line.now a.label room f' (ap course e ∙ d);
     }
 
@@ -203,7 +203,7 @@ returns-in-None g c =
     let a = c.args in
     let l = listed a.ledger.now in
     let m = a.memory.now in
-    let m₁ = c.open-row.new.memory in
+    let m₁ = c.open_row.new.memory in
     let m₂ = c.work.new.memory in
     let room = length a.records.now in
     let n = c.fitting-n.result.0 in
@@ -213,14 +213,14 @@ returns-in-None g c =
     let entries = c.fitting-n.ensures.entries in
     let held = c.fitting-n.ensures.held in
     let line = map (value_of K) a.line.now in
-    let same₁ = c.open-row.auto.memory in
+    let same₁ = c.open_row.auto.memory in
     let same₂ = c.work.auto.memory ∙ same₁ in
-    let only = c.open-row.ensures.only in
-    let row = c.open-row.ensures.row in
+    let only = c.open_row.ensures.only in
+    let row = c.open_row.ensures.row in
     let some : 0 < n = let z = c.if-n-eq0.false in omega (arith, z) in
-    let out = found_none (working K l m₁) (sym c.work.ensures.answer ∙ c.in-ok-subject.was ∙ ap Ok c.in-None.is) in
+    let out = found_none (working K l m₁) (sym c.work.ensures.answer ∙ c.in_ok-subject.was ∙ ap Ok c.in-None.is) in
     let w = out.0 in
-    let e = verdict_steps K l m a.line.now a.label room n es size entries (sym c.pass.ensures.answer ∙ c.in-ok-pass.was)
+    let e = verdict_steps K l m a.line.now a.label room n es size entries (sym c.pass.ensures.answer ∙ c.in_ok-pass.was)
     ∙ verdict_is K l m n es size entries held line m₁ same₁ only row a.label ∙ ap (verdict_of K (size_in l (length m)) (held_in l m) a.label line) out.1 in
     let left : Remains (spent w) l m₁ m₂ = subst (λ o. Remains o l m₁ m₂) out.1 c.work.ensures.left in
     let kept : held_in l m₂ ≡ held_in l m = left.0 ∙ begun_held K l m n es size entries held line m₁ same₁ only row in

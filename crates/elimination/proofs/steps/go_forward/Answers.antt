@@ -31,13 +31,13 @@ loop-j-preserved g c =
     let row = (only_same n h m₀ m only c.requires.held j c.loop-j-test.true).0 in
     let fits : row_place n h + wide n ≤ length m = let f = row_fits n h c.requires.held in omega (arith, f) in
     let long : length v ≡ wide n = clear_length K s w (row_at n m j) ∙ row_length n h m fits in
-    let new = c.clear-row.ensures.after ∙ put_row n m h v in
-    let own : row_at n c.clear-row.new.table h ≡ v = ap (λ x. row_at n x h) new ∙ part_own (row_place n h) (wide n) m v fits long in
-    let e = located_ok Forward (j + 1) (cleared K s w (row_at n m j)) c.clear-row.result v c.clear-row.ensures.answer (clear_leaves K s w (row_at n m j))
-    (sym c.at-place.ensures ∙ c.in-ok-at-place.was) in (
+    let new = c.clear_row.ensures.after ∙ put_row n m h v in
+    let own : row_at n c.clear_row.new.table h ≡ v = ap (λ x. row_at n x h) new ∙ part_own (row_place n h) (wide n) m v fits long in
+    let e = located_ok Forward (j + 1) (cleared K s w (row_at n m j)) c.clear_row.result v c.clear_row.ensures.answer (clear_leaves K s w (row_at n m j))
+    (sym c.at_place.ensures ∙ c.in_ok-at_place.was) in (
       c.loop-j.invariant.0 ∙ forward_more K n m₀ es j c.loop-j-test.true w v (ap (λ r. located Forward (j + 1) (cleared K s w r)) (sym row) ∙ e)
           ∙ ap (forward K (j + 1 + 1) (later n m₀ es j)) (sym own),
-      only_then n h m₀ m c.clear-row.new.table only (subst (OnlyRow n h m) (sym new) (only_put n h m v fits long)),
+      only_then n h m₀ m c.clear_row.new.table only (subst (OnlyRow n h m) (sym new) (only_put n h m v fits long)),
     )
 
 pub returns : goal.returns
@@ -47,8 +47,8 @@ returns g c =
     let all = c.loop-j.invariant.0 ∙ ap (λ hs. forward g.K.Number.kind (c.loop-j.j + 1) hs (row_at a.n c.loop-j.memory h)) (lines_end a.n a.memory.now a.entries.now c.loop-j.j c.loop-j-test.false) in
     record { answer = sym (ap done all); made = leaves_ok _ _ all; only = c.loop-j.invariant.1 }
 
-pub returns-in-err-at-place : goal.returns-in-err-at-place
-returns-in-err-at-place g c =
+pub returns-in_err-at_place : goal.returns-in_err-at_place
+returns-in_err-at_place g c =
     let K = g.K.Number.kind in
     let a = c.args in
     let n = a.n in
@@ -64,9 +64,9 @@ returns-in-err-at-place g c =
     let row = (only_same n h m₀ m only c.requires.held j c.loop-j-test.true).0 in
     let fits : row_place n h + wide n ≤ length m = let f = row_fits n h c.requires.held in omega (arith, f) in
     let long : length v ≡ wide n = clear_length K s w (row_at n m j) ∙ row_length n h m fits in
-    let new = c.clear-row.ensures.after ∙ put_row n m h v in
-    let f = c.in-err-at-place.field-0.0 in
-    let p = err_from_is_err_and c.from-residual.result c.from-residual.ensures.1 in
-    let e = located_err Forward (j + 1) (cleared K s w (row_at n m j)) c.clear-row.result f c.clear-row.ensures.answer (sym c.at-place.ensures ∙ c.in-err-at-place.was) in
+    let new = c.clear_row.ensures.after ∙ put_row n m h v in
+    let f = c.in_err-at_place.field-0.0 in
+    let p = err_from_is_err_and c.from_residual.result c.from_residual.ensures.1 in
+    let e = located_err Forward (j + 1) (cleared K s w (row_at n m j)) c.clear_row.result f c.clear_row.ensures.answer (sym c.at_place.ensures ∙ c.in_err-at_place.was) in
     let all = c.loop-j.invariant.0 ∙ forward_stop K n m₀ es j c.loop-j-test.true w f (ap (λ r. located Forward (j + 1) (cleared K s w r)) (sym row) ∙ e) in
-    record { answer = p.1 ∙ ap Err p.2 ∙ sym (ap done all); made = leaves_err _ f _ all; only = only_then n h m₀ m c.clear-row.new.table only (subst (OnlyRow n h m) (sym new) (only_put n h m v fits long)) }
+    record { answer = p.1 ∙ ap Err p.2 ∙ sym (ap done all); made = leaves_err _ f _ all; only = only_then n h m₀ m c.clear_row.new.table only (subst (OnlyRow n h m) (sym new) (only_put n h m v fits long)) }

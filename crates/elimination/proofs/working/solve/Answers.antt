@@ -12,33 +12,33 @@ use Rattle.elimination.proofs.Solving.{forward_stops, went_on}
 use Rattle.elimination.proofs.Walks.{made_ok, made_err, made_from}
 use Rattle.elimination.proofs.working.solve.Goals as goal
 
-pub offset-bounds-memory-at : goal.offset-bounds-memory-at
-offset-bounds-memory-at g c =
+pub offset_bounds-memory-at : goal.offset_bounds-memory-at
+offset_bounds-memory-at g c =
     let f = row_fits c.args.n (length c.args.entries.now) c.requires.held in
     let place : row_place c.args.n (length c.args.entries.now) < length c.args.memory.now = omega (arith, f, c.requires.room) in
     search (scaled_Fits, place, c.well-formed)
 
-pub slice-bounds-subject-of-end : goal.slice-bounds-subject-of-end
-slice-bounds-subject-of-end g c =
+pub slice_bounds-subject_of-end : goal.slice_bounds-subject_of-end
+slice_bounds-subject_of-end g c =
     let f = row_fits c.args.n (length c.args.entries.now) c.requires.held in
-    let inside : row_place c.args.n (length c.args.entries.now) + wide c.args.n ≤ length c.go-forward.new.memory = omega (arith, f, c.requires.room) in
+    let inside : row_place c.args.n (length c.args.entries.now) + wide c.args.n ≤ length c.go_forward.new.memory = omega (arith, f, c.requires.room) in
     search rules
 
-pub returns-in-err-go-forward : goal.returns-in-err-go-forward
-returns-in-err-go-forward g c =
+pub returns-in_err-go_forward : goal.returns-in_err-go_forward
+returns-in_err-go_forward g c =
     let K = g.K.Number.kind in
     let n = c.args.n in
     let es = c.args.entries.now in
     let h = length es in
     let m = c.args.memory.now in
-    let m₁ = c.go-forward.new.memory in
+    let m₁ = c.go_forward.new.memory in
     let hs = held_lines n m 0 es in
     let w = row_at n m h in
-    let x = c.go-forward.ensures in
-    let f = c.in-err-go-forward.field-0.0 in
-    let p = err_from_is_err_and c.from-residual.result c.from-residual.ensures.1 in
-    let says : c.from-residual.result ≡ Err f = p.1 ∙ ap Err p.2 in
-    let all = forward_stops K n hs w f (made_err (forward K 1 hs w) f (sym x.answer ∙ c.in-err-go-forward.was)) in
+    let x = c.go_forward.ensures in
+    let f = c.in_err-go_forward.field-0.0 in
+    let p = err_from_is_err_and c.from_residual.result c.from_residual.ensures.1 in
+    let says : c.from_residual.result ≡ Err f = p.1 ∙ ap Err p.2 in
+    let all = forward_stops K n hs w f (made_err (forward K 1 hs w) f (sym x.answer ∙ c.in_err-go_forward.was)) in
     record {
       answer = says ∙ sym (ap found all);
       proper = subst (Answers n h) (sym says) tt;
@@ -53,13 +53,13 @@ returns-in-None g c =
     let es = c.args.entries.now in
     let h = length es in
     let m = c.args.memory.now in
-    let m₁ = c.go-forward.new.memory in
+    let m₁ = c.go_forward.new.memory in
     let hs = held_lines n m 0 es in
     let w = row_at n m h in
     let v = row_at n m₁ h in
-    let x = c.go-forward.ensures in
-    let went = made_ok (forward K 1 hs w) v (sym x.answer ∙ c.in-ok-go-forward.was) x.made in
-    let none : subject K n (length hs) v ≡ None = ap₂ (subject K n) (held_length n m 0 es) (sym (row_is n h m₁)) ∙ sym c.subject-of.ensures.answer ∙ c.in-None.is in
+    let x = c.go_forward.ensures in
+    let went = made_ok (forward K 1 hs w) v (sym x.answer ∙ c.in_ok-go_forward.was) x.made in
+    let none : subject K n (length hs) v ≡ None = ap₂ (subject K n) (held_length n m 0 es) (sym (row_is n h m₁)) ∙ sym c.subject_of.ensures.answer ∙ c.in-None.is in
     let all = went_on K n hs w v None went none in
     record {
       answer = sym (ap found all);
@@ -68,27 +68,27 @@ returns-in-None g c =
       lines = only_lines n h m m₁ x.only c.requires.held;
     }
 
-pub returns-in-err-hold : goal.returns-in-err-hold
-returns-in-err-hold g c =
+pub returns-in_err-hold : goal.returns-in_err-hold
+returns-in_err-hold g c =
     let K = g.K.Number.kind in
     let n = c.args.n in
     let es = c.args.entries.now in
     let h = length es in
     let m = c.args.memory.now in
-    let m₁ = c.go-forward.new.memory in
+    let m₁ = c.go_forward.new.memory in
     let m₂ = c.hold.new.memory in
     let hs = held_lines n m 0 es in
     let w = row_at n m h in
     let v = row_at n m₁ h in
     let q = c.in-Some.q in
-    let x = c.go-forward.ensures in
+    let x = c.go_forward.ensures in
     let kept = only_held n h m m₁ x.only c.requires.held es (omega arith) in
-    let went = made_ok (forward K 1 hs w) v (sym x.answer ∙ c.in-ok-go-forward.was) x.made in
-    let some : subject K n (length hs) v ≡ Some q = ap₂ (subject K n) (held_length n m 0 es) (sym (row_is n h m₁)) ∙ sym c.subject-of.ensures.answer ∙ c.in-Some.is in
-    let f = c.in-err-hold.field-0.0 in
-    let p = err_from_is_err_and c.from-residual-in-err-hold.result c.from-residual-in-err-hold.ensures.1 in
-    let says : c.from-residual-in-err-hold.result ≡ Err f = p.1 ∙ ap Err p.2 in
-    let stopped = made_err (holding K q hs v) f (ap (λ gs. done (holding K q gs v)) (sym kept) ∙ sym c.hold.ensures.answer ∙ c.in-err-hold.was) in
+    let went = made_ok (forward K 1 hs w) v (sym x.answer ∙ c.in_ok-go_forward.was) x.made in
+    let some : subject K n (length hs) v ≡ Some q = ap₂ (subject K n) (held_length n m 0 es) (sym (row_is n h m₁)) ∙ sym c.subject_of.ensures.answer ∙ c.in-Some.is in
+    let f = c.in_err-hold.field-0.0 in
+    let p = err_from_is_err_and c.from_residual-in_err-hold.result c.from_residual-in_err-hold.ensures.1 in
+    let says : c.from_residual-in_err-hold.result ≡ Err f = p.1 ∙ ap Err p.2 in
+    let stopped = made_err (holding K q hs v) f (ap (λ gs. done (holding K q gs v)) (sym kept) ∙ sym c.hold.ensures.answer ∙ c.in_err-hold.was) in
     let all : work K n hs w ≡ stuck f = went_on K n hs w v (Some q) went some ∙ ap (solved_for K q) stopped in
     let rows : HoldsRows (Err f) n es m₁ m₂ = subst (λ r. HoldsRows r n es m₁ m₂) (ap (λ gs. holding K q gs v) kept ∙ stopped) c.hold.ensures.rows in
     record {
@@ -98,24 +98,24 @@ returns-in-err-hold g c =
       lines = c.hold.ensures.lines ∙ only_lines n h m m₁ x.only c.requires.held;
     }
 
-pub returns-in-ok-hold : goal.returns-in-ok-hold
-returns-in-ok-hold g c =
+pub returns-in_ok-hold : goal.returns-in_ok-hold
+returns-in_ok-hold g c =
     let K = g.K.Number.kind in
     let n = c.args.n in
     let es = c.args.entries.now in
     let h = length es in
     let m = c.args.memory.now in
-    let m₁ = c.go-forward.new.memory in
+    let m₁ = c.go_forward.new.memory in
     let m₂ = c.hold.new.memory in
     let hs = held_lines n m 0 es in
     let w = row_at n m h in
     let v = row_at n m₁ h in
     let q = c.in-Some.q in
-    let x = c.go-forward.ensures in
+    let x = c.go_forward.ensures in
     let kept = only_held n h m m₁ x.only c.requires.held es (omega arith) in
-    let went = made_ok (forward K 1 hs w) v (sym x.answer ∙ c.in-ok-go-forward.was) x.made in
-    let some : subject K n (length hs) v ≡ Some q = ap₂ (subject K n) (held_length n m 0 es) (sym (row_is n h m₁)) ∙ sym c.subject-of.ensures.answer ∙ c.in-Some.is in
-    let made = made_from (holding K q hs v) (ap (λ gs. done (holding K q gs v)) (sym kept) ∙ sym c.hold.ensures.answer ∙ c.in-ok-hold.was) in
+    let went = made_ok (forward K 1 hs w) v (sym x.answer ∙ c.in_ok-go_forward.was) x.made in
+    let some : subject K n (length hs) v ≡ Some q = ap₂ (subject K n) (held_length n m 0 es) (sym (row_is n h m₁)) ∙ sym c.subject_of.ensures.answer ∙ c.in-Some.is in
+    let made = made_from (holding K q hs v) (ap (λ gs. done (holding K q gs v)) (sym kept) ∙ sym c.hold.ensures.answer ∙ c.in_ok-hold.was) in
     let all : work K n hs w ≡ solved q made.0.0 made.0.1 = went_on K n hs w v (Some q) went some ∙ ap (solved_for K q) made.1 in
     let rows : HoldsRows (Ok made.0) n es m₁ m₂ = subst (λ r. HoldsRows r n es m₁ m₂) (ap (λ gs. holding K q gs v) kept ∙ made.1) c.hold.ensures.rows in
     record {

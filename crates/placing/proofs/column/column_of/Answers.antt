@@ -11,5 +11,5 @@ returns c =
       | else-position-gt0-via-then-position-gt0+else-position-n w ↦ λ e. w.if-position-n.false (omega arith)
       | else-position-gt0-via-else-position-gt0 w ↦ λ e. omega (arith, w.if-position-gt0.false)
     ] in
-    let is = beyond line c.args.n c.args.position c.start-of.result c.terms.result.now ne c.terms.ensures c.start-of.ensures in
+    let is = beyond line c.args.n c.args.position c.start_of.result c.terms.result.now ne c.terms.ensures c.start_of.ensures in
     record { is = is; digit = λ h e. digit line c.args.n c.args.position h (sym is ∙ e) }

@@ -9,8 +9,8 @@ loop-i-init c = refl
 
 pub loop-i-preserved : goal.loop-i-preserved
 loop-i-preserved c =
-    let f : SFits w32 c.coefficient-of.result = search rules in
-    one_more c.args.terms.now c.args.out.now c.loop-i.out c.loop-i.i _ (omega arith) c.loop-i.invariant (to_z-of_z w32 c.coefficient-of.result f ∙ c.coefficient-of.ensures)
+    let f : SFits w32 c.coefficient_of.result = search rules in
+    one_more c.args.terms.now c.args.out.now c.loop-i.out c.loop-i.i _ (omega arith) c.loop-i.invariant (to_z-of_z w32 c.coefficient_of.result f ∙ c.coefficient_of.ensures)
 
 pub returns : goal.returns
 returns c =

@@ -5,7 +5,7 @@ use Rattle.recipe.proofs.adding.write_entries.Goals as goal
 
 pub loop-i-preserved : goal.loop-i-preserved
 loop-i-preserved g c =
-    let a = take_more_set c.loop-i.entries c.loop-i.i c.entry-of.result (omega arith) in
+    let a = take_more_set c.loop-i.entries c.loop-i.i c.entry_of.result (omega arith) in
     let b = map_more (entry_of g.K.Number.kind) c.args.evidence.now c.loop-i.i c.index-evidence-i.result (omega arith) in
     cc
 

@@ -7,7 +7,7 @@ use Rattle.recipe.proofs.settling.add_value.Goals as goal
 pub returns-in-Value : goal.returns-in-Value
 returns-in-Value g c =
     let d = vec_items c.args.out.now in
-    let d' = vec_items c.add-settled.new.out in
-    let r = c.add-settled.result in
+    let d' = vec_items c.add_settled.new.out in
+    let r = c.add_settled.result in
     subst (λ s. Added (settled_text g.K.Number.kind c.args.q (Ok s)) d d' r) (sym c.in-Value.is)
-    (subst (λ p. Added (settled_row c.args.q p) d d' r) c.parts-of.ensures c.add-settled.ensures)
+    (subst (λ p. Added (settled_row c.args.q p) d d' r) c.parts_of.ensures c.add_settled.ensures)

@@ -12,9 +12,9 @@ pub loop-line-init : goal.loop-line-init
 loop-line-init g c =
     (c.requires.counted, reached_none g.K.Number.kind (length c.args.records.now) (contents c.args.sheet.now) (named c.args.lines.now) (vec_items c.args.out.now))
 
-pub add-answer-requires : goal.add-answer-requires
-add-answer-requires g c =
-    let t = c.state-text-answer in
+pub add_answer-requires : goal.add_answer-requires
+add_answer-requires g c =
+    let t = c.state_text-answer in
     let k = t.auto.records in
     record {
       few = omega (arith, k, c.loop-line.auto.records, c.requires.few);
@@ -25,7 +25,7 @@ add-answer-requires g c =
 pub loop-line-preserved : goal.loop-line-preserved
 loop-line-preserved g c =
     let K = g.K.Number.kind in
-    let t = c.state-text-answer in
+    let t = c.state_text-answer in
     let e = c.in-Some.ensures in
     let label = c.in-Some.line.label in
     let text = c.in-Some.line.bytes.now in
@@ -35,7 +35,7 @@ loop-line-preserved g c =
     let done = line_done K S label text c.loop-line.records t.result S' t.new.records t.ensures in (
       (subst (All (λ p. p.0 ≤ 16384)) e c.loop-line.invariant.0).1,
       reached_more K (length c.args.records.now) _ _ _ S S' _ _ _ _ row label text c.loop-line.invariant.1 e
-          (subst (λ n. LineDone K n S label text row S') c.loop-line.auto.records done) c.in-ok-add-answer.ensures,
+          (subst (λ n. LineDone K n S label text row S') c.loop-line.auto.records done) c.in_ok-add_answer.ensures,
     )
 
 pub returns : goal.returns

@@ -14,13 +14,13 @@ loop-i-preserved g c =
     let u = c.args.u in
     let row = c.args.row.now in
     elim c.if-i-u.branch [
-      | then-i-u+then-not-is-zero w ↦
+      | then-i-u+then-not-is_zero w ↦
           w.only-is ∙ sym (alone_more K u i row false
-          (ap₂ (λ (b z : Bool). cond b true z) (unequal i u w.if-i-u.true) (ap K.is_zero (at_is K row i w.index-row-i.result c.loop-i-test.true w.index-row-i.is) ∙ sym w.if-not-is-zero.ensures)))
+          (ap₂ (λ (b z : Bool). cond b true z) (unequal i u w.if-i-u.true) (ap K.is_zero (at_is K row i w.index-row-i.result c.loop-i-test.true w.index-row-i.is) ∙ sym w.if-not-is_zero.ensures)))
       | else-i-u w ↦ elim w.else-i-u.branch [
-        | else-i-u-via-then-i-u+else-not-is-zero x ↦
+        | else-i-u-via-then-i-u+else-not-is_zero x ↦
             w.only-is ∙ c.loop-i.invariant ∙ sym (alone_more K u i row true
-            (ap₂ (λ (b z : Bool). cond b true z) (unequal i u x.if-i-u.true) (ap K.is_zero (at_is K row i x.index-row-i.result c.loop-i-test.true x.index-row-i.is) ∙ sym x.if-not-is-zero.ensures)))
+            (ap₂ (λ (b z : Bool). cond b true z) (unequal i u x.if-i-u.true) (ap K.is_zero (at_is K row i x.index-row-i.result c.loop-i-test.true x.index-row-i.is) ∙ sym x.if-not-is_zero.ensures)))
         | else-i-u-via-else-i-u x ↦
             w.only-is ∙ c.loop-i.invariant ∙ sym (alone_more K u i row true (ap (λ (b : Bool). cond b true (K.is_zero (at K row i))) (equal i u x.if-i-u.false)))
       ]

@@ -18,21 +18,21 @@ columns K n u j m h =
 pub returns-in-default : goal.returns-in-default
 returns-in-default g c =
     let a = c.args in
-    sym (ap (λ o. told (value_in g.K.Number.kind a.n a.u o)) (row_missing a.n a.memory.now a.u a.entries.now (sym c.place-of.ensures.answer ∙ c.in-default.is)))
+    sym (ap (λ o. told (value_in g.K.Number.kind a.n a.u o)) (row_missing a.n a.memory.now a.u a.entries.now (sym c.place_of.ensures.answer ∙ c.in-default.is)))
 
-pub offset-bounds-memory-from : goal.offset-bounds-memory-from
-offset-bounds-memory-from g c =
+pub offset_bounds-memory-from : goal.offset_bounds-memory-from
+offset_bounds-memory-from g c =
     let r = row_inside c.args.n c.in-Some.j (length c.args.entries.now) (length c.args.memory.now) c.in-Some.ensures.within c.requires.held c.requires.room in
     omega (arith, r)
 
-pub slice-bounds-is-alone-end : goal.slice-bounds-is-alone-end
-slice-bounds-is-alone-end g c =
+pub slice_bounds-is_alone-end : goal.slice_bounds-is_alone-end
+slice_bounds-is_alone-end g c =
     let r = row_inside c.args.n c.in-Some.j (length c.args.entries.now) (length c.args.memory.now) c.in-Some.ensures.within c.requires.held c.requires.room in
     let inside : row_place c.args.n c.in-Some.j + c.args.n ≤ length c.args.memory.now = omega (arith, r) in
     search rules
 
-pub offset-bounds-memory-from-2 : goal.offset-bounds-memory-from-2
-offset-bounds-memory-from-2 g c =
+pub offset_bounds-memory-from-2 : goal.offset_bounds-memory-from-2
+offset_bounds-memory-from-2 g c =
     let r = row_inside c.args.n c.in-Some.j (length c.args.entries.now) (length c.args.memory.now) c.in-Some.ensures.within c.requires.held c.requires.room in
     omega (arith, r)
 
@@ -41,8 +41,8 @@ bounds-memory-from g c =
     let r = row_inside c.args.n c.in-Some.j (length c.args.entries.now) (length c.args.memory.now) c.in-Some.ensures.within c.requires.held c.requires.room in
     omega (arith, r)
 
-pub returns-then-not-is-alone : goal.returns-then-not-is-alone
-returns-then-not-is-alone g c =
+pub returns-then-not-is_alone : goal.returns-then-not-is_alone
+returns-then-not-is_alone g c =
     let K = g.K.Number.kind in
     let a = c.args in
     let n = a.n in
@@ -50,8 +50,8 @@ returns-then-not-is-alone g c =
     let j = c.in-Some.j in
     let inside = row_inside n j (length a.entries.now) (length m) c.in-Some.ensures.within c.requires.held c.requires.room in
     let row = row_at n m j in
-    let is : alone K a.u n row ≡ false = sym (columns K n a.u j m inside) ∙ sym c.if-not-is-alone.ensures in
-    sym (ap (λ o. told (value_in K n a.u o)) (row_found n m a.u a.entries.now j (sym c.place-of.ensures.answer ∙ c.in-Some.is)) ∙ ap (λ (b : Bool). told (cond b (Some (at K row n)) None)) is)
+    let is : alone K a.u n row ≡ false = sym (columns K n a.u j m inside) ∙ sym c.if-not-is_alone.ensures in
+    sym (ap (λ o. told (value_in K n a.u o)) (row_found n m a.u a.entries.now j (sym c.place_of.ensures.answer ∙ c.in-Some.is)) ∙ ap (λ (b : Bool). told (cond b (Some (at K row n)) None)) is)
 
 pub returns : goal.returns
 returns g c =
@@ -63,6 +63,6 @@ returns g c =
     let inside = row_inside n j (length a.entries.now) (length m) c.in-Some.ensures.within c.requires.held c.requires.room in
     let row = row_at n m j in
     let x = c.index-memory-from.result in
-    let is : alone K a.u n row ≡ true = sym (columns K n a.u j m inside) ∙ sym c.if-not-is-alone.ensures in
-    sym (ap (λ o. told (value_in K n a.u o)) (row_found n m a.u a.entries.now j (sym c.place-of.ensures.answer ∙ c.in-Some.is)) ∙ ap (λ (b : Bool). told (cond b (Some (at K row n)) None)) is
+    let is : alone K a.u n row ≡ true = sym (columns K n a.u j m inside) ∙ sym c.if-not-is_alone.ensures in
+    sym (ap (λ o. told (value_in K n a.u o)) (row_found n m a.u a.entries.now j (sym c.place_of.ensures.answer ∙ c.in-Some.is)) ∙ ap (λ (b : Bool). told (cond b (Some (at K row n)) None)) is
     ∙ ap (λ v. told (Some v)) (number_in K n m j n x inside (omega arith) c.index-memory-from.is))

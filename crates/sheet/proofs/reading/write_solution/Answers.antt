@@ -14,9 +14,9 @@ loop-u-preserved g c =
     let u = c.loop-u.u in
     let numbers = c.loop-u.numbers in
     let f = constant_at g.K.Number.kind a.n (held_lines a.n a.memory.now 0 a.entries.now) in
-    let v = c.constant-of.result in
+    let v = c.constant_of.result in
     let h : u < length numbers = omega arith in (
-      take_more_set numbers u v h ∙ ap₂ (λ l x. l ++ x ∷ []) c.loop-u.invariant.0 c.constant-of.ensures ∙ sym (tabled_more f u),
+      take_more_set numbers u v h ∙ ap₂ (λ l x. l ++ x ∷ []) c.loop-u.invariant.0 c.constant_of.ensures ∙ sym (tabled_more f u),
       drop-set-lt (u + 1) numbers u v (omega arith) ∙ sym (drop-drop 1 u numbers) ∙ ap (drop 1) c.loop-u.invariant.1 ∙ drop-drop 1 u a.numbers.now,
     )
 

@@ -36,14 +36,14 @@ loop-i-init g c =
     let n = c.fitting-n.result.0 in
     begins g.K.Number.kind list c.args.first (n + 1) (length list / (n + 1)) c.args.self.now c.args.records.now
 
-pub slice-bounds-line-end : goal.slice-bounds-line-end
-slice-bounds-line-end g c =
+pub slice_bounds-line_end : goal.slice_bounds-line_end
+slice_bounds-line_end g c =
     let w = c.fitting-n.result.0 + 1 in
     let inside = line_inside w c.loop-i.i (length c.args.list.now) (omega arith) in
     search rules
 
-pub overflow-add-first : goal.overflow-add-first
-overflow-add-first g c =
+pub overflow_add-first : goal.overflow_add-first
+overflow_add-first g c =
     let a = c.args in
     let low = low_labels c.fitting-n.result.0 (length a.list.now) a.first (length a.records.now) (sym c.in-default.ensures) c.loop-i.i (omega arith) in
     search rules

@@ -7,12 +7,12 @@ use Rattle.sheet.specs.Waits.{drop_answer, drop_after}
 use Rattle.sheet.proofs.Asked.{outside, not_done, done}
 use Rattle.sheet.proofs.sheet.Sheet.drop.Goals as goal
 
-pub returns-then-not-has-set-point : goal.returns-then-not-has-set-point
+pub returns-then-not-has_set_point : goal.returns-then-not-has_set_point
 unfolding contents drop_answer drop_after
-returns-then-not-has-set-point g c =
+returns-then-not-has_set_point g c =
     let q = c.args.q in
     let S = contents c.args.self.now in
-    let no = sym c.if-not-has-set-point.ensures in
+    let no = sym c.if-not-has_set_point.ensures in
     record {
       answer = outside (Err SetPoint) (Err NotWaiting) (Ok tt) (is_set_point S.n q) (stands q S.waits) no;
       contents = outside S S (with_waits S (without q S.waits)) (is_set_point S.n q) (stands q S.waits) no;
@@ -25,7 +25,7 @@ unfolding contents drop_answer drop_after
 returns-then-not-remove g c =
     let q = c.args.q in
     let S = contents c.args.self.now in
-    let yes = sym c.if-not-has-set-point.ensures in
+    let yes = sym c.if-not-has_set_point.ensures in
     let none = sym c.if-not-remove.ensures.answer in
     record {
       answer = not_done (Err SetPoint) (Err NotWaiting) (Ok tt) (is_set_point S.n q) (stands q S.waits) yes none;
@@ -39,7 +39,7 @@ unfolding contents drop_answer drop_after
 returns g c =
     let q = c.args.q in
     let S = contents c.args.self.now in
-    let yes = sym c.if-not-has-set-point.ensures in
+    let yes = sym c.if-not-has_set_point.ensures in
     let one = sym c.if-not-remove.ensures.answer in
     record {
       answer = done (Err SetPoint) (Err NotWaiting) (Ok tt) (is_set_point S.n q) (stands q S.waits) yes one;

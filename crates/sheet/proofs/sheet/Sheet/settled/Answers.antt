@@ -37,5 +37,5 @@ returns g c =
     let n = c.fitting-n.result.0 in
     let size = c.fitting-n.ensures.size in
     let held = held_is (listed s.ledger) (length s.memory.now) n c.fitting-n.result.1.now size c.fitting-n.ensures.entries s.memory.now refl in
-    ap Ok (c.read-settled.ensures ∙ ap₂ (λ k hs. told (value_at K k (q - 1) hs)) size held)
+    ap Ok (c.read_settled.ensures ∙ ap₂ (λ k hs. told (value_at K k (q - 1) hs)) size held)
     ∙ sym (ap (λ k. cond (is_set_point k q) (Ok (told (value_at K S.n (q - 1) S.held))) (Err SetPoint)) (sym size) ∙ ap (λ (b : Bool). cond b (Ok (told (value_at K S.n (q - 1) S.held))) (Err SetPoint)) (one_of n q c.if-q-lt1.false c.if-q-n.false))

@@ -32,5 +32,5 @@ returns g c =
     let enough : leb S.n (length old) ≡ true = ap (λ k. leb k (length old)) (sym size) ∙ at_most n (length old) c.if-numbers-n.false in
     record {
       answer = sym (ap (λ (b : Bool). cond b (Ok tt) (Err Room)) enough);
-      numbers = c.write-solution.ensures ∙ ap₂ (λ k hs. solution_of K k hs ++ drop k old) size held ∙ sym (ap (λ (b : Bool). cond b (solution_of K S.n S.held ++ drop S.n old) old) enough);
+      numbers = c.write_solution.ensures ∙ ap₂ (λ k hs. solution_of K k hs ++ drop k old) size held ∙ sym (ap (λ (b : Bool). cond b (solution_of K S.n S.held ++ drop S.n old) old) enough);
     }

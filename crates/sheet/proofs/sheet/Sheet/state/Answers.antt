@@ -17,27 +17,27 @@ use Rattle.sheet.proofs.sheet.Sheet.state.Goals as goal
 same : (f f' : SheetFault) → ◌≡◌ {A = Result Stated SheetFault} (Err f) (Err f') → f ≡ f'
 same f f' e = cc
 
-pub returns-in-err-state-line : goal.returns-in-err-state-line
+pub returns-in_err-state_line : goal.returns-in_err-state_line
 unfolding contents
-returns-in-err-state-line g c =
+returns-in_err-state_line g c =
     let K = g.K.Number.kind in
     let a = c.args in
     let s = a.self.now in
     let l = listed s.ledger in
     let m = s.memory.now in
-    let x = c.state-line.ensures in
+    let x = c.state_line.ensures in
     let v = verdict K (contents s) a.line.now a.label (length a.records.now) in
-    let f = c.in-err-state-line.field-0.0 in
-    let p = err_from_is_err_and c.from-residual.result c.from-residual.ensures.1 in
-    let says : c.from-residual.result ≡ Err f = p.1 ∙ ap Err p.2 in
-    let is = refused_is (contents s) v a.label l f (sym x.answer ∙ c.in-err-state-line.was) in
+    let f = c.in_err-state_line.field-0.0 in
+    let p = err_from_is_err_and c.from_residual.result c.from_residual.ensures.1 in
+    let says : c.from_residual.result ≡ Err f = p.1 ∙ ap Err p.2 in
+    let is = refused_is (contents s) v a.label l f (sym x.answer ∙ c.in_err-state_line.was) in
     record {
       answer = says ∙ is.0;
-      contents = contents_after v a.label s.number (marked s.marks) (waiting s.waits) l l m c.state-line.new.memory is.1 c.state-line.auto.memory x.held;
+      contents = contents_after v a.label s.number (marked s.marks) (waiting s.waits) l l m c.state_line.new.memory is.1 c.state_line.auto.memory x.held;
       records = x.records;
       rest = x.rest;
       lender = refl;
-      always = λ all f' d. x.always all f' (c.in-err-state-line.was ∙ ap Err (same f (Numbers f') (sym says ∙ d)));
+      always = λ all f' d. x.always all f' (c.in_err-state_line.was ∙ ap Err (same f (Numbers f') (sym says ∙ d)));
     }
 
 no_fault : (o : Stated) (f : SheetFault) → ◌≡◌ {A = Result Stated SheetFault} (Ok o) (Err f) → ⊥
@@ -50,12 +50,12 @@ returns-in-Follows g c =
     let a = c.args in
     let s = a.self.now in
     let l = listed s.ledger in
-    let x = c.state-line.ensures in
+    let x = c.state_line.ensures in
     let v = verdict K (contents s) a.line.now a.label (length a.records.now) in
-    let is = follows_is (contents s) v a.label l (sym x.answer ∙ c.in-ok-state-line.was ∙ ap Ok c.in-Follows.is) in
+    let is = follows_is (contents s) v a.label l (sym x.answer ∙ c.in_ok-state_line.was ∙ ap Ok c.in-Follows.is) in
     record {
       answer = is.0;
-      contents = contents_after v a.label s.number (marked s.marks) (waiting s.waits) l l s.memory.now c.state-line.new.memory is.1 c.state-line.auto.memory x.held;
+      contents = contents_after v a.label s.number (marked s.marks) (waiting s.waits) l l s.memory.now c.state_line.new.memory is.1 c.state_line.auto.memory x.held;
       records = x.records;
       rest = x.rest;
       lender = refl;
@@ -71,14 +71,14 @@ returns-else-not-hold g c =
     let l = listed s.ledger in
     let m = s.memory.now in
     let q = c.in-Taken.subject in
-    let x = c.state-line.ensures in
+    let x = c.state_line.ensures in
     let v = verdict K (contents s) a.line.now a.label (length a.records.now) in
-    let is = taken_is (contents s) v a.label l q (sym x.answer ∙ c.in-ok-state-line.was ∙ ap Ok c.in-Taken.is) in
+    let is = taken_is (contents s) v a.label l q (sym x.answer ∙ c.in_ok-state_line.was ∙ ap Ok c.in-Taken.is) in
     let place : length c.fitting.result.1.now ≡ length (held_in l m) = ap length c.fitting.ensures.entries ∙ sym (held_count l m) in
     let entered : listed c.hold.new.self ≡ holding a.label q l = c.hold.ensures.after ∙ ap (λ (b : Bool). cond b (holding a.label q l) l) c.if-not-hold.false in
     record {
       answer = ap (λ i. Ok (Held (i + 1))) place ∙ is.0;
-      contents = contents_after v a.label s.number (marked s.marks) (waiting s.waits) l (listed c.hold.new.self) m c.state-line.new.memory (entered ∙ is.1) c.state-line.auto.memory x.held;
+      contents = contents_after v a.label s.number (marked s.marks) (waiting s.waits) l (listed c.hold.new.self) m c.state_line.new.memory (entered ∙ is.1) c.state_line.auto.memory x.held;
       records = x.records;
       rest = x.rest;
       lender = refl;

@@ -7,12 +7,12 @@ use Rattle.sheet.specs.Waits.{wait_answer, wait_after}
 use Rattle.sheet.proofs.Asked.{outside, not_done, done, free}
 use Rattle.sheet.proofs.sheet.Sheet.wait.Goals as goal
 
-pub returns-then-not-has-set-point : goal.returns-then-not-has-set-point
+pub returns-then-not-has_set_point : goal.returns-then-not-has_set_point
 unfolding contents wait_answer wait_after
-returns-then-not-has-set-point g c =
+returns-then-not-has_set_point g c =
     let q = c.args.q in
     let S = contents c.args.self.now in
-    let no = sym c.if-not-has-set-point.ensures in
+    let no = sym c.if-not-has_set_point.ensures in
     record {
       answer = outside (Err SetPoint) (Err Waiting) (Ok tt) (is_set_point S.n q) (not (stands q S.waits)) no;
       contents = outside S S (with_waits S (placed q S.waits)) (is_set_point S.n q) (not (stands q S.waits)) no;
@@ -26,7 +26,7 @@ returns-then-not-place g c =
     let q = c.args.q in
     let s = c.args.self.now in
     let S = contents s in
-    let yes = sym c.if-not-has-set-point.ensures in
+    let yes = sym c.if-not-has_set_point.ensures in
     let again = sym (c.if-not-place.ensures.answer ∙ free s.ledger (length s.memory.now) q S.waits yes) in
     record {
       answer = not_done (Err SetPoint) (Err Waiting) (Ok tt) (is_set_point S.n q) (not (stands q S.waits)) yes again;
@@ -41,7 +41,7 @@ returns g c =
     let q = c.args.q in
     let s = c.args.self.now in
     let S = contents s in
-    let yes = sym c.if-not-has-set-point.ensures in
+    let yes = sym c.if-not-has_set_point.ensures in
     let new = sym (c.if-not-place.ensures.answer ∙ free s.ledger (length s.memory.now) q S.waits yes) in
     record {
       answer = done (Err SetPoint) (Err Waiting) (Ok tt) (is_set_point S.n q) (not (stands q S.waits)) yes new;

@@ -11,15 +11,15 @@ use Rattle.sheet.specs.Trials.{mark_of}
 use Rattle.sheet.proofs.Opened.{refused_stays, closed_is}
 use Rattle.sheet.proofs.sheet.Sheet.withdraw.Goals as goal
 
-pub returns-in-err-held : goal.returns-in-err-held
-returns-in-err-held g c =
+pub returns-in_err-held : goal.returns-in_err-held
+returns-in_err-held g c =
     let K = g.K.Number.kind in
     let t = c.args.trial in
     let S = contents c.args.self.now in
     let n = S.n in
-    let back = c.in-err-held.field-0.0 in
-    let p = err_from_is_err_and c.from-residual.result c.from-residual.ensures.1 in
-    let is = sym c.close.ensures.answer ∙ c.in-err-held.was in
+    let back = c.in_err-held.field-0.0 in
+    let p = err_from_is_err_and c.from_residual.result c.from_residual.ensures.1 in
+    let is = sym c.close.ensures.answer ∙ c.in_err-held.was in
     let stays = refused_stays S K t back is in
     record {
       answer = p.1 ∙ ap Err p.2 ∙ sym (ap done is);
@@ -40,8 +40,8 @@ returns g c =
     let m₁ = s₁.memory.now in
     let l₂ = listed c.restate.new.ledger in
     let m₂ = c.restate.new.memory in
-    let held = c.in-ok-held.held in
-    let is = sym c.close.ensures.answer ∙ c.in-ok-held.was in
+    let held = c.in_ok-held.held in
+    let is = sym c.close.ensures.answer ∙ c.in_ok-held.was in
     let closed = closed_is S K t held is in
     let e : contents s₁ ≡ with_marks S (older S.marks) = c.close.ensures.contents ∙ closed.1 in
     let x = c.restate.ensures in

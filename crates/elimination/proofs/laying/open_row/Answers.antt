@@ -8,28 +8,28 @@ use Rattle.elimination.specs.Held.{wide, row_place, row_at, OnlyRow}
 use Rattle.elimination.proofs.Places.{row_fits}
 use Rattle.elimination.specs.Outcome.{multipliers}
 use Rattle.elimination.proofs.Opening.{put_length, part_length, opened_row, opened_only}
-use Rattle.elimination.proofs.places.open_row.Goals as goal
+use Rattle.elimination.proofs.laying.open_row.Goals as goal
 
-pub offset-bounds-memory-at : goal.offset-bounds-memory-at
-offset-bounds-memory-at g c =
+pub offset_bounds-memory-at : goal.offset_bounds-memory-at
+offset_bounds-memory-at g c =
     let f = row_fits c.args.n c.args.h c.requires.place in
     let inside : row_place c.args.n c.args.h + wide c.args.n ≤ length c.args.memory.now = omega (arith, f, c.requires.room) in
     search rules
 
-pub slice-bounds-load-end : goal.slice-bounds-load-end
-slice-bounds-load-end g c =
+pub slice_bounds-load-end : goal.slice_bounds-load-end
+slice_bounds-load-end g c =
     let f = row_fits c.args.n c.args.h c.requires.place in
     let inside : row_place c.args.n c.args.h + wide c.args.n ≤ length c.args.memory.now = omega (arith, f, c.requires.room) in
     search rules
 
-pub offset-bounds-memory-end : goal.offset-bounds-memory-end
-offset-bounds-memory-end g c =
+pub offset_bounds-memory-end : goal.offset_bounds-memory-end
+offset_bounds-memory-end g c =
     let f = row_fits c.args.n c.args.h c.requires.place in
     let inside : row_place c.args.n c.args.h + wide c.args.n ≤ length c.args.memory.now = omega (arith, f, c.requires.room) in
     search rules
 
-pub slice-bounds-set-multipliers-end : goal.slice-bounds-set-multipliers-end
-slice-bounds-set-multipliers-end g c =
+pub slice_bounds-set_multipliers-end : goal.slice_bounds-set_multipliers-end
+slice_bounds-set_multipliers-end g c =
     let n = c.args.n in
     let r = row_place n c.args.h in
     let m = c.args.memory.now in
@@ -57,7 +57,7 @@ returns g c =
     let r = row_place n h in
     let m = c.args.memory.now in
     let v = c.load.new.w in
-    let w = c.set-multipliers.new.w in
+    let w = c.set_multipliers.new.w in
     let f = row_fits n h c.requires.place in
     let fits : r + wide n ≤ length m = omega (arith, f, c.requires.room) in
     let k = r + (n + 1) - r in
@@ -71,9 +71,9 @@ returns g c =
     let front : take e m₁ ≡ take r m ++ v = take-put_mid r k m v e (omega arith) (omega arith) in
     let back : drop e m₁ ≡ drop e m = drop-put_mid r k m v e (omega arith) (omega arith) (omega arith) in
     let cut = part_length e n m₁ (omega arith) in
-    let width : length w ≡ n = c.set-multipliers.auto.w ∙ cut in
+    let width : length w ≡ n = c.set_multipliers.auto.w ∙ cut in
     let new : put_mid e (e + n - e) m₁ w ≡ put_mid e n m₁ w = ap (λ i. put_mid e i m₁ w) (omega arith) in
     record {
-      row = ap (λ u. row_at n u h) new ∙ opened_row n h m m₁ v w fits same long width front back ∙ ap₂ (λ x y. x ++ y) is (c.set-multipliers.ensures ∙ ap (λ i. multipliers K i h) cut);
+      row = ap (λ u. row_at n u h) new ∙ opened_row n h m m₁ v w fits same long width front back ∙ ap₂ (λ x y. x ++ y) is (c.set_multipliers.ensures ∙ ap (λ i. multipliers K i h) cut);
       only = subst (OnlyRow n h m) (sym new) (opened_only n h m m₁ v w fits same long width front back);
     }

@@ -7,20 +7,20 @@ use Rattle.rows.proofs.Loads.{loaded, no_row_fault}
 use Rattle.elimination.specs.Held.{needed, line_place, line_at}
 use Rattle.elimination.proofs.Frames.{part_own}
 use Rattle.elimination.proofs.Places.{line_fits}
-use Rattle.elimination.proofs.places.write_line.Goals as goal
+use Rattle.elimination.proofs.laying.write_line.Goals as goal
 
 -- the part that the line has
 part_length : {V : Type 0} (l n : ℕ) (m : List V) → l + (n + 1) ≤ length m → length (take (l + (n + 1) - l) (drop l m)) ≡ n + 1
 part_length l n m h = length-take-le (l + (n + 1) - l) (drop l m) (let d = length-drop l m in omega arith) ∙ omega arith
 
-pub offset-bounds-memory-from : goal.offset-bounds-memory-from
-offset-bounds-memory-from g c =
+pub offset_bounds-memory-from : goal.offset_bounds-memory-from
+offset_bounds-memory-from g c =
     let f = line_fits c.args.n c.args.h c.requires.place in
     let inside : line_place c.args.n c.args.h + (c.args.n + 1) ≤ length c.args.memory.now = omega (arith, f, c.requires.room) in
     search rules
 
-pub slice-bounds-load-end : goal.slice-bounds-load-end
-slice-bounds-load-end g c =
+pub slice_bounds-load-end : goal.slice_bounds-load-end
+slice_bounds-load-end g c =
     let f = line_fits c.args.n c.args.h c.requires.place in
     let inside : line_place c.args.n c.args.h + (c.args.n + 1) ≤ length c.args.memory.now = omega (arith, f, c.requires.room) in
     search rules
