@@ -1,10 +1,9 @@
 -- What the operations on a row do in a column.
-use Rattle.std.proofs.Common.{◌≡◌, ℕ, zero, suc, ◌+◌, ◌<◌, ◌≤◌, Bool, true, false, cond, T, ltb, List, [], ◌∷◌, length, get_or, ℤ, pos, Some, None, Ok, Err, Result, sym, refl, ap, ◌∙◌, subst, add-one, arith, ltb→lt, lt→ltb}
+use Rattle.std.proofs.Common.{◌≡◌, ℕ, zero, suc, ◌+◌, ◌<◌, ◌≤◌, Bool, true, false, cond, T, ltb, List, [], ◌∷◌, length, get_or, ℤ, pos, Some, Ok, Err, Result, sym, refl, ap, ◌∙◌, add-one, arith, ltb→lt, lt→ltb}
 use Rattle.std.proofs.lemmas.List.{get_or_past}
-use Rattle.exact.specs.declared.fault.NumberFault.{NumberFault}
 use Rattle.exact.specs.Fraction.{Fraction}
 use Rattle.exact.specs.Kind.{Kind, Lawful}
-use Rattle.exact.specs.Answers.{whole_of, less_of, over_of}
+use Rattle.exact.specs.Answers.{whole_of, less_of}
 use Rattle.exact.proofs.Held.{whole_always, less_held, over_held}
 use Rattle.rows.specs.declared.fault.RowFault.{RowFault}
 use Rattle.rows.specs.Row.{at, done, Leaves, by_column, less_swept, whole_op, whole_row, less_op, over_op, less_row, over_row, cleared, clear_swept, highest}

@@ -1,10 +1,9 @@
 -- Work on one row of a table: the rest of the table stays as it is.
-use Rattle.std.proofs.Common.{◌≡◌, ℕ, ◌+◌, ◌-◌, ◌*◌, ◌<◌, ◌≤◌, min, ◌⊎◌, List, [], ◌∷◌, ◌++◌, length, get_or, take, drop, set, Ok, Err, Result, sym, refl, ap, ◌∙◌, subst, ap₂, inl, inr, mul-le-mul_right, add-mul, one-mul, arith, length-drop, length-set, take-append-drop, length-take, get_or-drop, get_or-take, drop-drop, drop-set-lt}
+use Rattle.std.proofs.Common.{◌≡◌, ℕ, ◌+◌, ◌-◌, ◌*◌, ◌<◌, ◌≤◌, min, List, ◌++◌, length, get_or, take, drop, set, Ok, Result, sym, refl, ap, ◌∙◌, subst, ap₂, mul-le-mul_right, add-mul, one-mul, arith, length-drop, take-append-drop, length-take, get_or-drop, get_or-take, drop-drop, drop-set-lt}
 use native.Mathlib.Decide.{dec_le}
 use lib.Seq.{take-set-le, drop-set-add, take-set-lt}
 use Rattle.exact.specs.declared.fault.NumberFault.{NumberFault}
-use Rattle.rows.specs.declared.fault.RowFault.{RowFault}
-use Rattle.rows.specs.Row.{placed, swept}
+use Rattle.rows.specs.Row.{placed}
 use Rattle.rows.specs.Table.{row_of, with_row}
 use Rattle.rows.proofs.Ops.{any_default}
 use Rattle.rows.proofs.Sweeps.{At, at_start, at_more}

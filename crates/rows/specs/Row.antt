@@ -1,5 +1,5 @@
 -- Rows of numbers, and what the operations on them make. Columns count from 0 here, and from 1 in a fault.
-use Rattle.std.specs.Prelude.{◌≡◌, ℕ, zero, suc, ◌+◌, Bool, true, false, cond, List, [], ◌∷◌, length, ℤ, pos, Some, None, Ok, Err, Option, Result, nat_lt, slice_index_or}
+use Rattle.std.specs.Prelude.{◌≡◌, ℕ, zero, suc, ◌+◌, cond, List, [], ◌∷◌, length, ℤ, pos, Some, None, Ok, Err, Option, Result, nat_lt, slice_index_or}
 use Rattle.exact.specs.declared.fault.NumberFault.{NumberFault}
 use Rattle.exact.specs.Kind.{Kind}
 use Rattle.exact.specs.Answers.{whole_of, less_of, over_of}

@@ -1,5 +1,5 @@
 -- A table: rows of one width, one after the other.
-use Rattle.std.specs.Prelude.{ℕ, ◌+◌, ◌*◌, List, ◌++◌, length, take, drop}
+use Rattle.std.specs.Prelude.{ℕ, ◌+◌, ◌*◌, List, ◌++◌, take, drop}
 
 -- the row j, as far as the table goes
 abbrev pub row_of : {V : Type 0} → (width : ℕ) → List V → (j : ℕ) → List V

@@ -1,4 +1,4 @@
-use Rattle.std.proofs.Common.{◌≡◌, ◌+◌, ◌<◌, ◌≤◌, length, Err, sym, refl, ap, ◌∙◌, arith}
+use Rattle.std.proofs.Common.{◌≡◌, ◌<◌, length, Err, sym, refl, ap, ◌∙◌, arith}
 use Rattle.std.proofs.lemmas.Result.{err_from_is_err_and}
 use Rattle.rows.specs.Row.{placed, over_op, over_row}
 use Rattle.rows.proofs.Sweeps.{at_start, at_more, at_stop, at_all, leaves_all, leaves_err}
@@ -13,8 +13,8 @@ unfolding over_op
 loop-i-preserved g c =
     let i = c.loop-i.i in
     let h : i < length c.loop-i.w = omega arith in
-    at_more (over_op g.K.Number.kind c.args.f) c.args.w.now c.loop-i.w i c.index-w-i.result c.in-ok-w.field-0 h c.index-w-i.is
-    (ap (placed i) (sym c.quotient.ensures) ∙ sym c.at-column.ensures ∙ c.in-ok-w.was) c.loop-i.invariant
+    at_more (over_op g.K.Number.kind c.args.f) c.args.w.now c.loop-i.w i c.index-w-i.result c.in_ok-w.field-0 h c.index-w-i.is
+    (ap (placed i) (sym c.quotient.ensures) ∙ sym c.at_column.ensures ∙ c.in_ok-w.was) c.loop-i.invariant
 
 pub returns : goal.returns
 unfolding over_row
@@ -29,20 +29,20 @@ returns g c =
       always = λ _ _. refl;
     }
 
-pub returns-in-err-w : goal.returns-in-err-w
+pub returns-in_err-w : goal.returns-in_err-w
 unfolding over_row over_op
-returns-in-err-w g c =
+returns-in_err-w g c =
     let K = g.K.Number.kind in
     let f = c.args.f in
     let i = c.loop-i.i in
     let h : i < length c.loop-i.w = omega arith in
-    let p = err_from_is_err_and c.from-residual.result c.from-residual.ensures.1 in
-    let stop = at_stop (over_op K f) c.args.w.now c.loop-i.w i c.index-w-i.result c.in-err-w.field-0.0 h c.index-w-i.is
-    (ap (placed i) (sym c.quotient.ensures) ∙ sym c.at-column.ensures ∙ c.in-err-w.was) c.loop-i.invariant in
-    let says : c.from-residual.result ≡ Err c.in-err-w.field-0.0 = p.1 ∙ ap Err p.2 in
+    let p = err_from_is_err_and c.from_residual.result c.from_residual.ensures.1 in
+    let stop = at_stop (over_op K f) c.args.w.now c.loop-i.w i c.index-w-i.result c.in_err-w.field-0.0 h c.index-w-i.is
+    (ap (placed i) (sym c.quotient.ensures) ∙ sym c.at_column.ensures ∙ c.in_err-w.was) c.loop-i.invariant in
+    let says : c.from_residual.result ≡ Err c.in_err-w.field-0.0 = p.1 ∙ ap Err p.2 in
     record {
       answer = says ∙ sym stop.0;
-      made = leaves_err (over_row K f c.args.w.now) c.in-err-w.field-0.0 stop.0 c.loop-i.w;
+      made = leaves_err (over_row K f c.args.w.now) c.in_err-w.field-0.0 stop.0 c.loop-i.w;
       left = sym stop.1;
       always = λ all nonzero. says ∙ sym stop.0 ∙ over_always g.K.Number.laws all f nonzero c.args.w.now;
     }

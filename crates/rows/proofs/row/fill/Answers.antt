@@ -1,4 +1,4 @@
-use Rattle.std.proofs.Common.{◌≡◌, ℕ, zero, suc, ◌+◌, List, [], ◌∷◌, ◌++◌, take, replicate, sym, refl, ap, ◌∙◌, add-one, arith, take_all}
+use Rattle.std.proofs.Common.{◌≡◌, ℕ, zero, suc, [], ◌∷◌, ◌++◌, replicate, sym, refl, ap, ◌∙◌, add-one, arith, take_all}
 use Rattle.std.proofs.lemmas.List.{take_more_set}
 use Rattle.rows.proofs.row.fill.Goals as goal
 

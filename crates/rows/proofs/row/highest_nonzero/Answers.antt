@@ -1,8 +1,8 @@
-use Rattle.std.proofs.Common.{◌≡◌, cond, length, Some, sym, refl, ap, ◌∙◌, arith}
+use Rattle.std.proofs.Common.{cond, Some, sym, ap, ◌∙◌, arith}
 use Rattle.rows.specs.Row.{highest}
 use Rattle.rows.proofs.Ops.{highest_more}
 use Rattle.rows.proofs.row.highest_nonzero.Goals as goal
-use Rattle.rows.proofs.row.highest_nonzero.Goals.{then-not-is-zero, else-not-is-zero}
+use Rattle.rows.proofs.row.highest_nonzero.Goals.{then-not-is_zero, else-not-is_zero}
 
 pub loop-i-preserved : goal.loop-i-preserved
 loop-i-preserved g c =
@@ -10,9 +10,9 @@ loop-i-preserved g c =
     let i = c.loop-i.i in
     let w = c.args.w.now in
     let more = highest_more K w i c.index-w-i.result c.loop-i-test.true c.index-w-i.is in
-    elim c.if-not-is-zero.branch [
-      | then-not-is-zero w ↦ w.best-is ∙ sym (more ∙ ap (λ b. cond b (highest K i c.args.w.now) (Some i)) (sym w.if-not-is-zero.ensures))
-      | else-not-is-zero w ↦ w.best-is ∙ c.loop-i.invariant ∙ sym (more ∙ ap (λ b. cond b (highest K i c.args.w.now) (Some i)) (sym w.if-not-is-zero.ensures))
+    elim c.if-not-is_zero.branch [
+      | then-not-is_zero w ↦ w.best-is ∙ sym (more ∙ ap (λ b. cond b (highest K i c.args.w.now) (Some i)) (sym w.if-not-is_zero.ensures))
+      | else-not-is_zero w ↦ w.best-is ∙ c.loop-i.invariant ∙ sym (more ∙ ap (λ b. cond b (highest K i c.args.w.now) (Some i)) (sym w.if-not-is_zero.ensures))
     ]
 
 pub returns : goal.returns

@@ -1,4 +1,4 @@
-use Rattle.std.proofs.Common.{◌≡◌, ◌+◌, ◌<◌, ◌≤◌, length, get_or, ℤ, pos, Err, sym, refl, ap, ◌∙◌, arith, w32, SFits, rules}
+use Rattle.std.proofs.Common.{◌≡◌, ◌<◌, length, get_or, pos, Err, sym, refl, ap, ◌∙◌, arith, w32, SFits, rules}
 use mir.ValLaws.{to_z-of_z}
 use Rattle.std.proofs.lemmas.Result.{err_from_is_err_and}
 use Rattle.exact.specs.Answers.{whole_of}
@@ -22,8 +22,8 @@ loop-i-preserved g c =
     let h : i < length w = omega arith in
     let x = get_or w i K.nil in
     let said : c.whole.result ≡ whole_op K numbers i x = c.whole.ensures ∙ ap (whole_of K) (to_z-of_z w32 z fits) ∙ sym (whole_inside K numbers i x b) in
-    at_more (whole_op K numbers) c.args.w.now w i x c.in-ok-w.field-0 h (any_default w i K.nil x h)
-    (ap (placed i) (sym said) ∙ sym c.at-column.ensures ∙ c.in-ok-w.was) c.loop-i.invariant
+    at_more (whole_op K numbers) c.args.w.now w i x c.in_ok-w.field-0 h (any_default w i K.nil x h)
+    (ap (placed i) (sym said) ∙ sym c.at_column.ensures ∙ c.in_ok-w.was) c.loop-i.invariant
 
 pub returns : goal.returns
 unfolding whole_row
@@ -40,9 +40,9 @@ returns g c =
       always = λ _. refl;
     }
 
-pub returns-in-err-w : goal.returns-in-err-w
+pub returns-in_err-w : goal.returns-in_err-w
 unfolding whole_row
-returns-in-err-w g c =
+returns-in_err-w g c =
     let K = g.K.Number.kind in
     let i = c.loop-i.i in
     let numbers = c.args.numbers.now in
@@ -53,13 +53,13 @@ returns-in-err-w g c =
     let h : i < length w = omega arith in
     let x = get_or w i K.nil in
     let said : c.whole.result ≡ whole_op K numbers i x = c.whole.ensures ∙ ap (whole_of K) (to_z-of_z w32 z fits) ∙ sym (whole_inside K numbers i x b) in
-    let p = err_from_is_err_and c.from-residual.result c.from-residual.ensures.1 in
-    let says : c.from-residual.result ≡ Err c.in-err-w.field-0.0 = p.1 ∙ ap Err p.2 in
-    let stop = at_stop (whole_op K numbers) c.args.w.now w i x c.in-err-w.field-0.0 h (any_default w i K.nil x h)
-    (ap (placed i) (sym said) ∙ sym c.at-column.ensures ∙ c.in-err-w.was) c.loop-i.invariant in
+    let p = err_from_is_err_and c.from_residual.result c.from_residual.ensures.1 in
+    let says : c.from_residual.result ≡ Err c.in_err-w.field-0.0 = p.1 ∙ ap Err p.2 in
+    let stop = at_stop (whole_op K numbers) c.args.w.now w i x c.in_err-w.field-0.0 h (any_default w i K.nil x h)
+    (ap (placed i) (sym said) ∙ sym c.at_column.ensures ∙ c.in_err-w.was) c.loop-i.invariant in
     record {
       answer = says ∙ sym stop.0;
-      made = leaves_err (whole_row K numbers c.args.w.now) c.in-err-w.field-0.0 stop.0 w;
+      made = leaves_err (whole_row K numbers c.args.w.now) c.in_err-w.field-0.0 stop.0 w;
       left = sym stop.1;
       always = λ all. says ∙ sym stop.0 ∙ whole_row_always g.K.Number.laws all numbers c.args.w.now;
     }

@@ -1,4 +1,4 @@
-use Rattle.std.proofs.Common.{◌≡◌, ◌+◌, ◌<◌, ◌≤◌, length, Err, sym, refl, ap, ◌∙◌, arith}
+use Rattle.std.proofs.Common.{◌≡◌, ◌<◌, length, Err, sym, refl, ap, ◌∙◌, arith}
 use Rattle.std.proofs.lemmas.Result.{err_from_is_err_and}
 use Rattle.rows.specs.Row.{placed, less_op, less_row}
 use Rattle.rows.proofs.Sweeps.{answer_more, answer_stop, answer_end}
@@ -15,8 +15,8 @@ loop-i-preserved g c =
     let b : i < length r = omega arith in
     let h : i < length c.args.w.now = omega arith in
     let is = less_inside K c.args.f r i x y b (c.index-by-i.is ∙ any_default r i y K.nil b) in
-    c.loop-i.invariant ∙ answer_more (less_op K c.args.f r) c.args.w.now i x c.in-ok-at-column.field-0 h c.index-w-i.is
-    (ap (placed i) (is ∙ sym c.less_times.ensures) ∙ sym c.at-column.ensures ∙ c.in-ok-at-column.was)
+    c.loop-i.invariant ∙ answer_more (less_op K c.args.f r) c.args.w.now i x c.in_ok-at_column.field-0 h c.index-w-i.is
+    (ap (placed i) (is ∙ sym c.less_times.ensures) ∙ sym c.at_column.ensures ∙ c.in_ok-at_column.was)
 
 pub returns : goal.returns
 unfolding less_row
@@ -28,9 +28,9 @@ returns g c =
       always = λ _. refl;
     }
 
-pub returns-in-err-at-column : goal.returns-in-err-at-column
+pub returns-in_err-at_column : goal.returns-in_err-at_column
 unfolding less_row
-returns-in-err-at-column g c =
+returns-in_err-at_column g c =
     let K = g.K.Number.kind in
     let f = c.args.f in
     let i = c.loop-i.i in
@@ -41,10 +41,10 @@ returns-in-err-at-column g c =
     let b : i < length r = omega arith in
     let h : i < length w = omega arith in
     let is = less_inside K f r i x y b (c.index-by-i.is ∙ any_default r i y K.nil b) in
-    let p = err_from_is_err_and c.from-residual.result c.from-residual.ensures.1 in
-    let stop = c.loop-i.invariant ∙ answer_stop (less_op K f r) w i x c.in-err-at-column.field-0.0 h c.index-w-i.is
-    (ap (placed i) (is ∙ sym c.less_times.ensures) ∙ sym c.at-column.ensures ∙ c.in-err-at-column.was) in
-    let says : c.from-residual.result ≡ Err c.in-err-at-column.field-0.0 = p.1 ∙ ap Err p.2 in
+    let p = err_from_is_err_and c.from_residual.result c.from_residual.ensures.1 in
+    let stop = c.loop-i.invariant ∙ answer_stop (less_op K f r) w i x c.in_err-at_column.field-0.0 h c.index-w-i.is
+    (ap (placed i) (is ∙ sym c.less_times.ensures) ∙ sym c.at_column.ensures ∙ c.in_err-at_column.was) in
+    let says : c.from_residual.result ≡ Err c.in_err-at_column.field-0.0 = p.1 ∙ ap Err p.2 in
     record {
       answer = says ∙ sym stop;
       always = λ all. says ∙ sym stop ∙ less_always g.K.Number.laws all f w r;

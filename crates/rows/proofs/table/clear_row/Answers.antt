@@ -1,6 +1,6 @@
-use Rattle.std.proofs.Common.{◌≡◌, ◌+◌, ◌-◌, ◌*◌, ◌<◌, ◌≤◌, min, length, get_or, drop, sym, refl, ap, ◌∙◌, subst, arith, get_or-drop, get_or-take}
+use Rattle.std.proofs.Common.{◌≡◌, ◌+◌, ◌*◌, ◌<◌, length, get_or, drop, sym, refl, ap, ◌∙◌, arith, get_or-drop, get_or-take}
 use Rattle.exact.proofs.Held.{nil_zero}
-use Rattle.rows.specs.Row.{done, at, cleared, clear_swept}
+use Rattle.rows.specs.Row.{done}
 use Rattle.rows.specs.Table.{row_of, with_row}
 use Rattle.rows.proofs.Ops.{at_is, at_past, cleared_zero, cleared_less}
 use Rattle.rows.proofs.Tables.{row_long, same_row}
@@ -26,18 +26,18 @@ returns-then-column-table g c =
     let is = cleared_zero K a.s w (row_of a.width m a.by) K.nil (at_past K w a.s (omega (arith, l))) (nil_zero g.K.Number.laws) in
     record { answer = sym (ap done is.0); after = sym (ap (with_row a.width m a.w) is.1 ∙ same_row a.width m a.w); always = λ _. refl }
 
-pub returns-then-is-zero : goal.returns-then-is-zero
-returns-then-is-zero g c =
+pub returns-then-is_zero : goal.returns-then-is_zero
+returns-then-is_zero g c =
     let K = g.K.Number.kind in
     let a = c.args in
     let m = a.table.now in
     let w = row_of a.width m a.w in
     let x = c.index-table-column.result in
     let l = row_long a.width m a.w in
-    let place : c.saturating-add-column.result ≡ a.w * a.width + a.s = omega arith in
+    let place : c.saturating_add-column.result ≡ a.w * a.width + a.s = omega arith in
     let inside : a.s < length w = omega (arith, l) in
     let x_is : x ≡ get_or w a.s x = c.index-table-column.is ∙ ap (λ k. get_or m k x) place ∙ sym (get_or-take a.width (drop (a.w * a.width) m) a.s x c.if-s-width.false ∙ get_or-drop (a.w * a.width) m a.s x) in
-    let is = cleared_zero K a.s w (row_of a.width m a.by) x (at_is K w a.s x inside x_is) (sym c.if-is-zero.ensures) in
+    let is = cleared_zero K a.s w (row_of a.width m a.by) x (at_is K w a.s x inside x_is) (sym c.if-is_zero.ensures) in
     record { answer = sym (ap done is.0); after = sym (ap (with_row a.width m a.w) is.1 ∙ same_row a.width m a.w); always = λ _. refl }
 
 pub returns : goal.returns
@@ -48,9 +48,9 @@ returns g c =
     let w = row_of a.width m a.w in
     let x = c.index-table-column.result in
     let l = row_long a.width m a.w in
-    let place : c.saturating-add-column.result ≡ a.w * a.width + a.s = omega arith in
+    let place : c.saturating_add-column.result ≡ a.w * a.width + a.s = omega arith in
     let inside : a.s < length w = omega (arith, l) in
     let x_is : x ≡ get_or w a.s x = c.index-table-column.is ∙ ap (λ k. get_or m k x) place ∙ sym (get_or-take a.width (drop (a.w * a.width) m) a.s x c.if-s-width.false ∙ get_or-drop (a.w * a.width) m a.s x) in
-    let is = cleared_less K a.s w (row_of a.width m a.by) x (at_is K w a.s x inside x_is) (sym c.if-is-zero.ensures) in
-    let e = c.subtract-row.ensures in
+    let is = cleared_less K a.s w (row_of a.width m a.by) x (at_is K w a.s x inside x_is) (sym c.if-is_zero.ensures) in
+    let e = c.subtract_row.ensures in
     record { answer = e.answer ∙ sym (ap done is.0); after = e.after ∙ sym (ap (with_row a.width m a.w) is.1); always = e.always }

@@ -1,10 +1,10 @@
-use Rattle.std.proofs.Common.{◌≡◌, ◌+◌, ◌-◌, ◌*◌, ◌<◌, ◌≤◌, min, length, get_or, set, Ok, Err, sym, refl, ap, ◌∙◌, subst, arith, rules}
+use Rattle.std.proofs.Common.{◌≡◌, ◌+◌, ◌*◌, ◌<◌, ◌≤◌, min, length, get_or, set, Err, sym, refl, ap, ◌∙◌, subst, arith}
 use Rattle.std.proofs.lemmas.Result.{err_from_is_err_and}
-use Rattle.rows.specs.Row.{placed, done, less_op, less_row, less_swept}
+use Rattle.rows.specs.Row.{placed, less_op, less_row, less_swept}
 use Rattle.rows.specs.Table.{row_of}
-use Rattle.rows.proofs.Ops.{less_inside, less_past, less_always, any_default}
+use Rattle.rows.proofs.Ops.{less_inside, less_past, less_always}
 use Rattle.rows.proofs.Sweeps.{at_stop, at_end}
-use Rattle.rows.proofs.Tables.{Reached, reached_start, reached_more, unchanged, row_number, table_after, row_long, number_of}
+use Rattle.rows.proofs.Tables.{Reached, reached_start, reached_more, row_number, table_after, row_long, number_of}
 use Rattle.rows.proofs.table.subtract_row.Goals as goal
 
 pub loop-i-init : goal.loop-i-init
@@ -21,15 +21,15 @@ loop-i-preserved g c =
     let op = less_op K a.f r in
     let x = c.index-table-target.result in
     let y = c.index-table-source.result in
-    let target : c.saturating-mul-target.result ≡ a.w * a.width = omega arith in
-    let source : c.saturating-mul-source.result ≡ a.by * a.width = omega arith in
+    let target : c.saturating_mul-target.result ≡ a.w * a.width = omega arith in
+    let source : c.saturating_mul-source.result ≡ a.by * a.width = omega arith in
     let h : i < a.width = omega arith in
     let b : i < length r = let l = row_long a.width m₀ a.by in omega (arith, l) in
     let y_is : y ≡ get_or r i K.nil = number_of op a.width a.w m₀ i m c.loop-i.invariant a.by y K.nil h b (c.index-table-source.is ∙ ap (λ k. get_or m (k + i) y) source) in
     let is = less_inside K a.f r i x y b y_is in
-    subst (λ k. Reached op a.width a.w m₀ (i + 1) (set m (k + i) c.in-ok-table.field-0)) (sym target)
-    (reached_more op a.width a.w m₀ i m c.loop-i.invariant x c.in-ok-table.field-0 h (omega arith) (c.index-table-target.is ∙ ap (λ k. get_or m (k + i) x) target)
-    (ap (placed i) (is ∙ sym c.less_times.ensures) ∙ sym c.at-column.ensures ∙ c.in-ok-table.was))
+    subst (λ k. Reached op a.width a.w m₀ (i + 1) (set m (k + i) c.in_ok-table.field-0)) (sym target)
+    (reached_more op a.width a.w m₀ i m c.loop-i.invariant x c.in_ok-table.field-0 h (omega arith) (c.index-table-target.is ∙ ap (λ k. get_or m (k + i) x) target)
+    (ap (placed i) (is ∙ sym c.less_times.ensures) ∙ sym c.at_column.ensures ∙ c.in_ok-table.was))
 
 pub returns : goal.returns
 unfolding less_row less_swept
@@ -51,9 +51,9 @@ returns g c =
       always = λ _. refl;
     }
 
-pub returns-in-err-table : goal.returns-in-err-table
+pub returns-in_err-table : goal.returns-in_err-table
 unfolding less_row less_swept
-returns-in-err-table g c =
+returns-in_err-table g c =
     let K = g.K.Number.kind in
     let a = c.args in
     let i = c.loop-i.i in
@@ -64,26 +64,20 @@ returns-in-err-table g c =
     let op = less_op K a.f r in
     let x = c.index-table-target.result in
     let y = c.index-table-source.result in
-    let target : c.saturating-mul-target.result ≡ a.w * a.width = omega arith in
-    let source : c.saturating-mul-source.result ≡ a.by * a.width = omega arith in
+    let target : c.saturating_mul-target.result ≡ a.w * a.width = omega arith in
+    let source : c.saturating_mul-source.result ≡ a.by * a.width = omega arith in
     let h : i < a.width = omega arith in
     let b : i < length r = let l = row_long a.width m₀ a.by in omega (arith, l) in
     let y_is : y ≡ get_or r i K.nil = number_of op a.width a.w m₀ i m c.loop-i.invariant a.by y K.nil h b (c.index-table-source.is ∙ ap (λ k. get_or m (k + i) y) source) in
     let is = less_inside K a.f r i x y b y_is in
-    let f = c.in-err-table.field-0.0 in
-    let p = err_from_is_err_and c.from-residual.result c.from-residual.ensures.1 in
-    let says : c.from-residual.result ≡ Err f = p.1 ∙ ap Err p.2 in
+    let f = c.in_err-table.field-0.0 in
+    let p = err_from_is_err_and c.from_residual.result c.from_residual.ensures.1 in
+    let says : c.from_residual.result ≡ Err f = p.1 ∙ ap Err p.2 in
     let inside : i < length (row_of a.width m a.w) = let l = row_long a.width m a.w in omega (arith, l, target) in
     let stop = at_stop op w₀ (row_of a.width m a.w) i x f inside (row_number op a.width a.w m₀ i m c.loop-i.invariant x h (c.index-table-target.is ∙ ap (λ k. get_or m (k + i) x) target))
-    (ap (placed i) (is ∙ sym c.less_times.ensures) ∙ sym c.at-column.ensures ∙ c.in-err-table.was) c.loop-i.invariant.row in
+    (ap (placed i) (is ∙ sym c.less_times.ensures) ∙ sym c.at_column.ensures ∙ c.in_err-table.was) c.loop-i.invariant.row in
     record {
       answer = says ∙ sym stop.0;
       after = table_after op a.width a.w m₀ i m c.loop-i.invariant (omega arith) (less_swept K a.f w₀ r) stop.1;
       always = λ all. says ∙ sym stop.0 ∙ less_always g.K.Number.laws all a.f w₀ r;
     }
-
-pub offset-bounds-table-target : goal.offset-bounds-table-target
-offset-bounds-table-target g c = let inside : c.saturating-mul-target.result + c.loop-i.i < length c.loop-i.table = omega arith in search rules
-
-pub offset-bounds-table-target-in-loop-i : goal.offset-bounds-table-target-in-loop-i
-offset-bounds-table-target-in-loop-i g c = let inside : c.saturating-mul-target.result + c.loop-i.i < length c.loop-i.table = omega arith in search rules
