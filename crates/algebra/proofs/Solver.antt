@@ -85,6 +85,9 @@ norm (a :+ b) = add_p (norm a) (norm b)
 norm (a :* b) = mul_p (norm a) (norm b)
 norm (:neg a) = neg_p (norm a)
 
+true≢ : false ≡ true → ⊥
+true≢ p = subst T (sym p) tt
+
 eq_m→≡ : (a b : Mono) → T (eq_m a b) → a ≡ b
 eq_m→≡ [] [] t = refl
 eq_m→≡ [] (y ∷ ys) t = absurd t
@@ -256,3 +259,7 @@ module _ (𝓡 : Ring) where
 
     pub solve : (a b : Expr) → norm a ≡ norm b → ⟦ a ⟧ ρ ≈ ⟦ b ⟧ ρ
     solve a b e = tr (sy (norm_ok a)) (tr (of_path (ap (poly_of ρ) e)) (norm_ok b))
+
+  -- an example of its use
+  square : (a b : El) → (a ⊕ b) ⊗ (a ⊕ neg b) ≈ a ⊗ a ⊕ neg (b ⊗ b)
+  square a b = solve (a ∷ b ∷ []) ((var 0 :+ var 1) :* (var 0 :- var 1)) (var 0 :* var 0 :- var 1 :* var 1) refl

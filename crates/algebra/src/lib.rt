@@ -1,5 +1,7 @@
 // The algebra of exact numbers: a solver for ring identities, and the kinds that prime ideals of the integers give. The theory stands in
 // specs/ and proofs/; the functions here only have its theorems as their contracts.
+#![tactic(auto)]
+
 ghost use Rattle.std.specs.Prelude.{Bool, ℕ, ◌<◌, ℤ};
 ghost use Rattle.exact.specs.Fraction.{Equal};
 ghost use Rattle.exact.specs.Kind.{KindLaws};
