@@ -1,5 +1,5 @@
 -- Whether a ledger has a place for a line.
-use Rattle.std.proofs.Common.{◌≡◌, ℕ, ◌+◌, ◌<◌, ◌≤◌, Bool, true, false, cond, T, ltb, List, length, take, sym, refl, ap, ◌∙◌, subst, arith, ltb→lt, lt→ltb, length-take-le}
+use Rattle.std.proofs.Common.{◌≡◌, ℕ, ◌<◌, ◌≤◌, Bool, true, false, cond, T, ltb, length, refl, ap, ◌∙◌, arith, ltb→lt, lt→ltb, length-take-le}
 use Rattle.ledger.specs.declared.ledger.Ledger.{Ledger}
 use Rattle.ledger.specs.Listed.{listed, may_hold}
 

@@ -1,5 +1,5 @@
 -- The marks of a table, the newest first.
-use Rattle.std.proofs.Common.{◌≡◌, ℕ, zero, suc, ◌+◌, ◌-◌, ◌<◌, ◌≤◌, ◌≢◌, List, [], ◌∷◌, length, get_or, set, sym, refl, ap, ◌∙◌, ap₂, add-one, arith, get_or-set_other, get_or-set_same}
+use Rattle.std.proofs.Common.{◌≡◌, ℕ, zero, suc, ◌+◌, ◌-◌, ◌<◌, ◌≤◌, ◌≢◌, List, ◌∷◌, length, get_or, set, refl, ap, ◌∙◌, ap₂, add-one, arith, get_or-set_other, get_or-set_same}
 use Rattle.ledger.specs.Marked.{newest}
 
 pub newest_length : (d : ℕ) (counts : List ℕ) → length (newest d counts) ≡ d

@@ -1,5 +1,5 @@
 -- What holds of the waits in a table.
-use Rattle.std.specs.Prelude.{◌≡◌, ℕ, ◌<◌, ◌≤◌, List, ◌≢◌, slice_index_or}
+use Rattle.std.specs.Prelude.{ℕ, ◌<◌, ◌≤◌, List, ◌≢◌, slice_index_or}
 use Rattle.ledger.specs.declared.wait.Wait.{Wait}
 
 abbrev pub no_wait : Wait

@@ -1,4 +1,4 @@
-use Rattle.std.proofs.Common.{◌≡◌, ◌≤◌, sym, refl, ap, ◌∙◌, arith}
+use Rattle.std.proofs.Common.{sym, ap, ◌∙◌, arith}
 use Rattle.ledger.specs.Marked.{marked, newest, newest_of, older}
 use Rattle.ledger.proofs.Stacked.{newest_first}
 use Rattle.ledger.proofs.marks.Marks.pop.Goals as goal

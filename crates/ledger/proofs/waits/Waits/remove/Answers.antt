@@ -1,8 +1,8 @@
-use Rattle.std.proofs.Common.{◌≡◌, ◌<◌, ◌≤◌, eqb, map, length, get_or, take, filter, sym, refl, ap, ◌∙◌, arith}
+use Rattle.std.proofs.Common.{◌≡◌, ◌<◌, eqb, map, length, get_or, take, filter, ap, ◌∙◌, arith}
 use Rattle.std.proofs.lemmas.List.{get_or_default}
-use Rattle.std.proofs.lemmas.List.Filters.{FiltersInPlace, FiltersInPlace-more_set, FiltersInPlace-more_no}
+use Rattle.std.proofs.lemmas.List.Filters.{FiltersInPlace-more_set, FiltersInPlace-more_no}
 use Rattle.std.proofs.lemmas.Bool.{not_from_false, not_from_true, eq-eqb, ne_eqb}
-use Rattle.ledger.specs.Apart.{no_wait, point_at}
+use Rattle.ledger.specs.Apart.{no_wait}
 use Rattle.ledger.specs.Waiting.{waiting}
 use Rattle.ledger.proofs.Kept.{other, sound_kept, without_is}
 use Rattle.ledger.proofs.waits.Waits.remove.Goals as goal
@@ -23,15 +23,15 @@ loop-i-preserved c =
       | else-wait-q w ↦ rw (w.table-is, w.count-is) (FiltersInPlace-more_no inv h (not_from_true (eqb x.set_point q) (eq-eqb x.set_point q w.if-wait-q.false)) read)
     ]
 
-pub invariant-of-self : goal.invariant-of-self
-invariant-of-self c =
+pub invariant_of-self : goal.invariant_of-self
+invariant_of-self c =
     let w = c.args.self.now in
     let s = w.sound in
     let inv = c.loop-i.invariant in
     let all : c.loop-i.i ≡ w.count = omega arith in
     let left : take c.loop-i.count c.loop-i.table ≡ filter (other c.args.q) (take w.count w.table) = inv.front ∙ ap (λ i. filter (other c.args.q) (take i w.table)) all in
     let sound = sound_kept (other c.args.q) w.count c.loop-i.count w.table c.loop-i.table (omega arith) (omega arith) left s.2 s.3 in
-    ((omega arith, omega arith, sound.0, sound.1), tt)
+    record { sound = (omega arith, omega arith, sound.0, sound.1) }
 
 pub returns : goal.returns
 unfolding waiting
