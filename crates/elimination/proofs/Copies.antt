@@ -1,5 +1,5 @@
 -- Numbers copied to an earlier part of the same list.
-use Rattle.std.proofs.Common.{◌≡◌, ℕ, ◌+◌, ◌-◌, ◌<◌, ◌≤◌, List, ◌++◌, length, get_or, take, drop, set, sym, refl, ap, ◌∙◌, subst, arith, length-drop, length-take-le, get_or-drop, take-take}
+use Rattle.std.proofs.Common.{◌≡◌, ℕ, ◌+◌, ◌-◌, ◌<◌, ◌≤◌, List, ◌++◌, length, get_or, take, drop, set, sym, ap, ◌∙◌, arith, length-drop, length-take-le, get_or-drop, take-take}
 use lib.Seq.{paste}
 use Rattle.std.proofs.lemmas.List.Edits.{paste_more, take-paste, drop-paste}
 use Rattle.std.proofs.lemmas.List.{take_at, drop_at, drop-take}

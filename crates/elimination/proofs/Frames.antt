@@ -1,11 +1,11 @@
 -- What a write to a part of the memory leaves of the held lines.
-use Rattle.std.proofs.Common.{◌≡◌, ℕ, zero, suc, ◌+◌, ◌-◌, ◌*◌, ◌<◌, ◌≤◌, List, [], ◌∷◌, ◌++◌, length, get_or, take, drop, sym, refl, ap, ◌∙◌, subst, ap₂, arith, take-take, drop-drop}
+use Rattle.std.proofs.Common.{◌≡◌, ℕ, suc, ◌+◌, ◌-◌, ◌<◌, ◌≤◌, List, [], ◌∷◌, ◌++◌, length, take, drop, sym, refl, ap, ◌∙◌, ap₂, arith, take-take, drop-drop}
 use borrow.Rule.Slice.PartMut.{put_mid}
 use Rattle.std.proofs.lemmas.List.{drop-take}
 use Rattle.std.proofs.lemmas.Slice.{take-put_mid_below, drop-put_mid, between-put_mid}
 use Rattle.ledger.specs.declared.entry.Entry.{Entry}
 use Rattle.rows.specs.Table as table
-use Rattle.elimination.specs.Held.{HeldLine, wide, lines_place, row_place, line_place, row_at, line_at, held_line, held_lines, OnlyRow}
+use Rattle.elimination.specs.Held.{wide, lines_place, row_place, line_place, row_at, line_at, held_line, held_lines, OnlyRow}
 use Rattle.elimination.proofs.Places.{row_next, row_line, rest_past}
 
 -- ---- a part of a memory after another was written

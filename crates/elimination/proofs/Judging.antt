@@ -1,5 +1,5 @@
 -- The verdict on a line goes by what the steps make of its working row.
-use Rattle.std.proofs.Common.{◌≡◌, ℕ, ◌×◌, List, length, Some, None, Ok, Err, Option, Result, refl}
+use Rattle.std.proofs.Common.{◌≡◌, ℕ, List, length, Some, None, Ok, Err, Option, Result, refl}
 use Rattle.exact.specs.Kind.{Kind}
 use Rattle.elimination.specs.declared.fault.StepFault.{StepFault}
 use Rattle.elimination.specs.Held.{HeldLine}

@@ -1,5 +1,5 @@
 -- Where rows and lines lie.
-use Rattle.std.proofs.Common.{◌≡◌, ℕ, suc, ◌+◌, ◌-◌, ◌*◌, ◌<◌, ◌≤◌, List, length, take, drop, sym, refl, ap, ◌∙◌, mul-le-mul_right, add-mul, mul-le-mul, one-mul, mul-add, arith, length-drop, length-take-le, drop-drop}
+use Rattle.std.proofs.Common.{◌≡◌, ℕ, ◌+◌, ◌-◌, ◌*◌, ◌<◌, ◌≤◌, List, length, take, drop, sym, ap, ◌∙◌, mul-le-mul_right, add-mul, mul-le-mul, one-mul, mul-add, arith, length-drop, length-take-le, drop-drop}
 use Rattle.elimination.specs.Held.{wide, needed, lines_place, row_place, line_place, row_at}
 
 next : (t u w : ℕ) → t < u → t * w + w ≤ u * w

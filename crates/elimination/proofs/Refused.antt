@@ -1,5 +1,5 @@
 -- The refusals of a line before any step, one by one.
-use Rattle.std.proofs.Common.{◌≡◌, ℕ, ◌+◌, ◌<◌, ◌≤◌, Bool, true, false, cond, eqb, ltb, leb, List, length, ℤ, Ok, Err, Result, sym, refl, ap, ◌∙◌, arith}
+use Rattle.std.proofs.Common.{◌≡◌, ℕ, ◌+◌, ◌<◌, ◌≤◌, Bool, false, cond, ltb, leb, List, length, ℤ, Ok, Err, Result, ap, ◌∙◌, arith}
 use Rattle.elimination.specs.declared.fault.SheetFault.{SheetFault}
 use Rattle.elimination.specs.declared.fault.SheetFault.TheVariants as fault
 use Rattle.elimination.specs.Refusals.{over_limit, label_fits, limited, refusal}

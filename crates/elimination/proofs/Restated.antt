@@ -1,11 +1,11 @@
 -- Held lines stated again, one place after the other.
-use Rattle.std.proofs.Common.{◌≡◌, ℕ, zero, suc, ◌+◌, ◌<◌, ◌≤◌, Bool, true, false, cond, leb, List, [], ◌∷◌, ◌++◌, length, get_or, take, drop, Some, None, Option, sym, refl, ap, ◌∙◌, subst, ap₂, arith, length-append}
+use Rattle.std.proofs.Common.{◌≡◌, ℕ, zero, suc, ◌+◌, ◌<◌, ◌≤◌, Bool, true, false, cond, leb, List, [], ◌∷◌, length, get_or, take, drop, Some, None, sym, refl, ap, ◌∙◌, subst, ap₂, arith, length-append}
 use native.Mathlib.Decide.{dec_lt}
 use Rattle.exact.specs.Kind.{Kind}
 use Rattle.ledger.specs.declared.entry.Entry.{Entry}
 use Rattle.ledger.specs.Entries.{blank}
 use Rattle.ledger.specs.Listed.{Listed, holding}
-use Rattle.elimination.specs.Held.{HeldLine, needed, used, fits, size_in, entries_in, line_place, line_at, held_line, held_lines, held_in}
+use Rattle.elimination.specs.Held.{needed, used, fits, size_in, entries_in, line_place, line_at, held_line, held_lines, held_in}
 use Rattle.elimination.proofs.Places.{line_next, lines_end, rest_past}
 use Rattle.elimination.proofs.Shown.{used_all, nothing_held}
 use Rattle.elimination.proofs.Walks.{lines_first, lines_end as lines-all}

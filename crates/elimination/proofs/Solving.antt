@@ -1,11 +1,11 @@
 -- Divide and back, one after the other; and what the steps come to.
-use Rattle.std.proofs.Common.{◌≡◌, ℕ, List, [], length, Some, None, Ok, Err, Option, Result, sym, refl, ap, ◌∙◌, subst}
+use Rattle.std.proofs.Common.{◌≡◌, ℕ, List, [], length, Ok, Err, Option, Result, sym, refl, ap, ◌∙◌, subst}
 use Rattle.exact.specs.Kind.{Kind}
 use Rattle.ledger.specs.declared.entry.Entry.{Entry}
 use Rattle.elimination.specs.declared.fault.StepFault.{StepFault}
 use Rattle.elimination.specs.Held.{HeldLine, held_lines}
 use Rattle.elimination.specs.Steps.{then, forward, subject, divided, back, rows_after, holding}
-use Rattle.elimination.specs.Outcome.{Outcome, stuck, spent, solved, solved_for, looked, outcome_of, work}
+use Rattle.elimination.specs.Outcome.{stuck, spent, looked, outcome_of, work}
 use Rattle.elimination.specs.Working.{HoldsRows}
 
 module _ {V : Type 0} (K : Kind V) (q : ℕ) (hs : List (HeldLine V)) (w : List V) where

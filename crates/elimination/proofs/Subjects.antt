@@ -1,5 +1,5 @@
 -- The subject of a working row.
-use Rattle.std.proofs.Common.{◌≡◌, ℕ, zero, suc, ◌<◌, ◌≤◌, Bool, true, false, cond, List, take, Some, None, Option, sym, refl, ap, ◌∙◌, arith, get_or-take}
+use Rattle.std.proofs.Common.{◌≡◌, ℕ, zero, suc, ◌<◌, ◌≤◌, Bool, true, false, cond, List, take, Some, None, sym, refl, ap, ◌∙◌, arith, get_or-take}
 use Rattle.exact.specs.Kind.{Kind}
 use Rattle.rows.specs.Row.{at, highest}
 use Rattle.elimination.specs.Steps.{subject}

@@ -1,5 +1,5 @@
 -- Over a kind that holds all its admitted numbers stating a line never answers "beyond the numbers".
-use Rattle.std.proofs.Common.{◌≡◌, ℕ, ◌+◌, Bool, true, false, cond, eqb, ltb, List, map, length, ℤ, Some, None, Ok, Err, Option, Result, sym, refl, ap, ◌∙◌, arith}
+use Rattle.std.proofs.Common.{◌≡◌, ℕ, ◌+◌, Bool, true, false, cond, eqb, ltb, List, map, length, ℤ, Some, None, Ok, Err, Option, Result, sym, ap, ◌∙◌, arith}
 use Rattle.exact.specs.Fraction.{Fraction}
 use Rattle.exact.specs.Kind.{Kind, Lawful}
 use Rattle.exact.specs.Answers.{value_of}

@@ -1,15 +1,15 @@
 -- What the steps come to, and a line on a sheet with no set point.
-use Rattle.std.proofs.Common.{◌≡◌, ℕ, ◌<◌, Bool, true, false, cond, List, [], ◌∷◌, map, length, get_or, set, ℤ, pos, Some, None, Ok, Err, Option, Result, sym, refl, ap, ◌∙◌, subst, arith}
+use Rattle.std.proofs.Common.{◌≡◌, ℕ, ◌<◌, Bool, true, false, cond, List, [], ◌∷◌, map, length, get_or, set, ℤ, pos, Some, None, Ok, Err, refl, ap, ◌∙◌, arith}
 use Rattle.exact.specs.Kind.{Kind}
 use Rattle.exact.specs.Answers.{value_of}
 use Rattle.ledger.specs.Listed.{Listed}
 use Rattle.rows.specs.Row.{at}
 use Rattle.elimination.specs.declared.fault.StepFault.{StepFault}
 use Rattle.elimination.specs.Held.{HeldLine}
-use Rattle.elimination.specs.Outcome.{Outcome, stuck, spent, solved, found, work}
+use Rattle.elimination.specs.Outcome.{Outcome, stuck, spent, solved, found}
 use Rattle.elimination.specs.Parts.{taken_for}
 use Rattle.elimination.specs.Stating.{over_written, entered, held_after}
-use Rattle.elimination.specs.Steps.{Verdict, follows, clash, one, evidence, steps}
+use Rattle.elimination.specs.Steps.{follows, clash, one, evidence, steps}
 use Rattle.elimination.specs.Outcome.{verdict_of}
 
 -- ---- an outcome, by the subject that was found

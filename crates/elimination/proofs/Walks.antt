@@ -1,5 +1,5 @@
 -- The walks over the held lines, one place after the other.
-use Rattle.std.proofs.Common.{◌≡◌, ℕ, ◌+◌, ◌<◌, ◌≤◌, List, [], ◌∷◌, ◌++◌, length, get_or, take, drop, Ok, Err, Result, sym, refl, ap, ◌∙◌, subst, arith}
+use Rattle.std.proofs.Common.{◌≡◌, ℕ, ◌+◌, ◌<◌, ◌≤◌, List, [], ◌∷◌, length, get_or, drop, Ok, Err, Result, sym, refl, ap, ◌∙◌, subst, arith}
 use Rattle.std.proofs.lemmas.List.{at_drop_more, at_drop_all}
 use Rattle.exact.specs.Kind.{Kind}
 use Rattle.ledger.specs.declared.entry.Entry.{Entry}
@@ -7,10 +7,10 @@ use Rattle.ledger.specs.Entries.{blank}
 use Rattle.rows.specs.declared.fault.RowFault.{RowFault}
 use Rattle.rows.specs.Row.{done, Leaves, cleared}
 use Rattle.elimination.specs.declared.fault.Step.{Step}
-use Rattle.elimination.specs.declared.fault.Step.TheVariants.{Forward, Back}
+use Rattle.elimination.specs.declared.fault.Step.TheVariants.{Forward}
 use Rattle.elimination.specs.declared.fault.StepFault.{StepFault}
-use Rattle.elimination.specs.Held.{HeldLine, row_at, line_at, held_line, held_lines}
-use Rattle.elimination.specs.Steps.{located, then, forward, back, with_row}
+use Rattle.elimination.specs.Held.{HeldLine, row_at, held_line, held_lines}
+use Rattle.elimination.specs.Steps.{located, then, forward}
 
 -- ---- answers in place
 pub made_ok : {X E : Type 0} (m : Result X E) (x : X) → done m ≡ Ok tt → Leaves m x → m ≡ Ok x

@@ -1,10 +1,10 @@
 -- The steps over the working row of a line, and what then stands.
-use Rattle.std.proofs.Common.{◌≡◌, ℕ, ◌+◌, ◌<◌, ◌≤◌, Bool, true, false, cond, leb, List, [], ◌∷◌, ◌++◌, length, drop, sym, refl, ap, ◌∙◌, subst, ap₂, arith}
+use Rattle.std.proofs.Common.{◌≡◌, ℕ, ◌+◌, ◌<◌, ◌≤◌, Bool, true, false, cond, List, [], ◌∷◌, ◌++◌, length, drop, sym, refl, ap, ◌∙◌, subst, ap₂, arith}
 use Rattle.exact.specs.Kind.{Kind}
 use Rattle.ledger.specs.declared.entry.Entry.{Entry}
 use Rattle.ledger.specs.Listed.{Listed, holding}
 use Rattle.elimination.specs.Held.{HeldLine, needed, used, lines_place, fits, size_in, entries_in, row_at, line_at, held_line, held_lines, held_in, row_in, OnlyRow}
-use Rattle.elimination.specs.Outcome.{Outcome, solved, work}
+use Rattle.elimination.specs.Outcome.{solved, work}
 use Rattle.elimination.specs.Working.{working, Remains}
 use Rattle.elimination.proofs.Frames.{held_more, only_held, only_lines}
 use Rattle.elimination.proofs.Places.{lines_fit, rest_past}

@@ -1,5 +1,5 @@
 -- The numbers of a new held line in memory: the rows, the other lines and what lies past the sheet stay as they are.
-use Rattle.std.proofs.Common.{◌≡◌, ℕ, ◌+◌, ◌<◌, ◌≤◌, List, length, sym, refl, ap, ◌∙◌, arith}
+use Rattle.std.proofs.Common.{◌≡◌, ℕ, ◌+◌, ◌<◌, ◌≤◌, List, length, arith}
 use Rattle.ledger.specs.declared.entry.Entry.{Entry}
 use Rattle.elimination.specs.Held.{wide, row_place, line_place, row_at, held_lines}
 use Rattle.elimination.specs.Parts.{OtherLines}

@@ -1,8 +1,7 @@
 -- The held lines as they lie in memory: n + 1 places of 2 n + 1 numbers for the rows, then n places of n + 1 numbers for the lines.
-use Rattle.std.specs.Prelude.{◌≡◌, ℕ, zero, suc, ◌+◌, ◌*◌, ◌≤◌, Bool, true, false, cond, List, [], ◌∷◌, length, take, drop, nat_le}
+use Rattle.std.specs.Prelude.{◌≡◌, ℕ, zero, suc, ◌+◌, ◌*◌, Bool, cond, List, [], ◌∷◌, length, take, drop, nat_le}
 use Rattle.ledger.specs.declared.entry.Entry.{Entry}
-use Rattle.ledger.specs.declared.ledger.Ledger.{Ledger}
-use Rattle.ledger.specs.Listed.{Listed, listed}
+use Rattle.ledger.specs.Listed.{Listed}
 
 -- a held line: its label, its subject (a set point, from 0), its n + 1 numbers, and its solved row of 2 n + 1
 pub record HeldLine (V : Type 0) : Type 0 where

@@ -1,5 +1,5 @@
 -- What the steps make of the working row, apart from the line that it stands for. Columns and places count from 0 here, and from 1 in answers.
-use Rattle.std.specs.Prelude.{ℕ, ◌+◌, Bool, cond, List, [], ◌∷◌, ◌++◌, length, replicate, Some, None, Ok, Err, Option, Result, slice_set}
+use Rattle.std.specs.Prelude.{ℕ, cond, List, [], ◌∷◌, ◌++◌, length, replicate, Some, None, Ok, Err, Option, Result, slice_set}
 use Rattle.exact.specs.Kind.{Kind}
 use Rattle.rows.specs.Row.{at}
 use Rattle.elimination.specs.declared.fault.StepFault.{StepFault}

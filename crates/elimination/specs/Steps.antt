@@ -1,5 +1,5 @@
 -- The steps of stating a line over the held ones, through the answers of the kind. Columns and places count from 0 here, and from 1 in answers.
-use Rattle.std.specs.Prelude.{ℕ, ◌+◌, Bool, true, false, cond, List, [], ◌∷◌, ◌++◌, length, set, replicate, ℤ, pos, Some, None, Ok, Err, Option, Result, nat_lt, slice_set}
+use Rattle.std.specs.Prelude.{ℕ, ◌+◌, cond, List, [], ◌∷◌, ◌++◌, length, replicate, pos, Some, None, Ok, Err, Option, Result, nat_lt, slice_set}
 use Rattle.exact.specs.Kind.{Kind}
 use Rattle.exact.specs.Answers.{value_of}
 use Rattle.rows.specs.declared.fault.RowFault.{RowFault}

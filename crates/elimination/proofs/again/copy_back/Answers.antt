@@ -1,5 +1,4 @@
-use Rattle.std.proofs.Common.{◌≡◌, ◌+◌, ◌<◌, ◌≤◌, length, get_or, drop, set, sym, refl, ap, ◌∙◌, subst, arith}
-use lib.Seq.{paste}
+use Rattle.std.proofs.Common.{◌+◌, ◌<◌, length, get_or, drop, set, ap, ◌∙◌, arith}
 use Rattle.std.proofs.lemmas.List.Edits.{paste_none}
 use Rattle.elimination.proofs.Copies.{copied_more}
 use Rattle.elimination.proofs.again.copy_back.Goals as goal

@@ -1,4 +1,4 @@
-use Rattle.std.proofs.Common.{◌≡◌, ◌+◌, ◌≤◌, length, take, drop, sym, refl, ap, ◌∙◌, subst, arith}
+use Rattle.std.proofs.Common.{◌+◌, ◌≤◌, length, take, drop, ap, ◌∙◌, arith}
 use Rattle.elimination.specs.Held.{line_place}
 use Rattle.elimination.proofs.Places.{line_next, line_fits, rest_past}
 use Rattle.elimination.proofs.Copies.{copied}

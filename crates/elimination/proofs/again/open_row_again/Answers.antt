@@ -1,4 +1,4 @@
-use Rattle.std.proofs.Common.{◌≡◌, ◌+◌, ◌-◌, ◌≤◌, ◌++◌, length, take, drop, sym, refl, ap, ◌∙◌, subst, arith, length-take-le, rules}
+use Rattle.std.proofs.Common.{◌≡◌, ◌+◌, ◌-◌, ◌≤◌, ◌++◌, length, take, drop, sym, ap, ◌∙◌, subst, arith, length-take-le, rules}
 use borrow.Rule.Slice.PartMut.{put_mid}
 use Rattle.elimination.specs.Held.{wide, row_place, line_place, row_at, line_at, OnlyRow}
 use Rattle.elimination.proofs.Places.{row_fits, row_line, line_fits}

@@ -1,7 +1,7 @@
-use Rattle.std.proofs.Common.{◌≡◌, ℕ, ◌+◌, ◌<◌, ◌≤◌, length, take, drop, Some, None, Ok, Err, sym, refl, ap, ◌∙◌, subst, arith}
+use Rattle.std.proofs.Common.{◌≡◌, ℕ, ◌+◌, ◌<◌, ◌≤◌, length, take, drop, Ok, sym, ap, ◌∙◌, subst, arith}
 use Rattle.ledger.specs.Listed.{listed}
-use Rattle.elimination.specs.Held.{needed, lines_place, line_place, line_at, size_in, entries_in, held_in}
-use Rattle.elimination.specs.Outcome.{stuck, spent, solved, found}
+use Rattle.elimination.specs.Held.{needed, lines_place, line_place, line_at, size_in, held_in}
+use Rattle.elimination.specs.Outcome.{stuck, spent, solved}
 use Rattle.elimination.specs.Working.{working, Remains}
 use Rattle.elimination.specs.Working.{HasPlace as Findable}
 use Rattle.elimination.proofs.Places.{rest_past}
@@ -114,8 +114,8 @@ returns-in-None g c =
       later = subst (λ k. drop (line_place k (place + 1)) m₂ ≡ drop (line_place k (place + 1)) m) size later;
     }
 
-pub returns-in-default : goal.returns-in-default
-returns-in-default g c =
+pub returns-in_default : goal.returns-in_default
+returns-in_default g c =
     let K = g.K.Number.kind in
     let l = listed c.args.ledger.now in
     let m = c.args.memory.now in
@@ -135,8 +135,8 @@ returns-in-default g c =
     let own : line_at N m place ≡ line = ap (λ k. line_at k m place) (sym size) in
     let lines = lines_kept K l m n es size entries held line m₁ same₁ only row m₂ c.work.ensures.lines in
     let later : drop (line_place n (place + 1)) m₂ ≡ drop (line_place n (place + 1)) m = rest_past (lines_place n) (line_place n (place + 1)) (omega arith) m₂ m lines in
-    let x = c.in-default.ensures in
-    let f = c.in-default.field-0 in
+    let x = c.in_default.ensures in
+    let f = c.in_default.field-0 in
     let out = found_fault (working K l m₁) f (sym x.answer) in
     let is : (label : ℕ) → steps K N (held_in l m) label (line_at N m place) ≡ verdict_of K N (held_in l m) label line (stuck f) = λ label. ap (steps K N (held_in l m) label) own ∙ verdict_is K l m n es size entries held line m₁ same₁ only row label ∙ ap (verdict_of K N (held_in l m) label line) out in
     let left : Remains (stuck f) l m₁ m₂ = subst (λ o. Remains o l m₁ m₂) out x.left in

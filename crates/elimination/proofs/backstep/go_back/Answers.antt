@@ -1,7 +1,7 @@
-use Rattle.std.proofs.Common.{◌≡◌, ◌+◌, ◌-◌, ◌*◌, ◌<◌, ◌≤◌, length, drop, Err, sym, refl, ap, ◌∙◌, subst, ap₂, arith}
+use Rattle.std.proofs.Common.{◌≡◌, ◌+◌, ◌≤◌, length, drop, Err, sym, ap, ◌∙◌, subst, arith}
 use Rattle.std.proofs.lemmas.Slice.{drop-put_mid}
 use Rattle.std.proofs.lemmas.Result.{err_from_is_err_and}
-use Rattle.rows.specs.Row.{done, Leaves, cleared, clear_swept}
+use Rattle.rows.specs.Row.{done, cleared, clear_swept}
 use Rattle.rows.proofs.Ops.{clear_length, clear_leaves}
 use Rattle.elimination.specs.declared.fault.Step.TheVariants.{Back}
 use Rattle.elimination.specs.Held.{wide, needed, row_place, row_at}

@@ -1,4 +1,4 @@
-use Rattle.std.proofs.Common.{◌≡◌, ◌+◌, ◌*◌, ◌<◌, ◌≤◌, length, Err, sym, refl, ap, ◌∙◌, subst, ap₂, arith, rules}
+use Rattle.std.proofs.Common.{◌+◌, ◌≤◌, length, Err, sym, refl, ap, ◌∙◌, ap₂, arith, rules}
 use Rattle.std.proofs.lemmas.Result.{err_from_is_err_and}
 use Rattle.rows.specs.Row.{done, cleared}
 use Rattle.elimination.specs.declared.fault.Step.TheVariants.{Back}

@@ -1,4 +1,4 @@
-use Rattle.std.proofs.Common.{◌≡◌, Bool, true, false, cond, [], ◌∷◌, length, get_or, set, ℤ, pos, sym, refl, ap, ◌∙◌, w32, SFits, rules}
+use Rattle.std.proofs.Common.{◌≡◌, Bool, cond, [], ◌∷◌, get_or, set, pos, sym, ap, ◌∙◌, w32, SFits, rules}
 use mir.ValLaws.{to_z-of_z}
 use Rattle.exact.specs.Answers.{value_of}
 use Rattle.elimination.specs.Stating.{course, records_after}

@@ -1,9 +1,8 @@
-use Rattle.std.proofs.Common.{◌≡◌, ◌+◌, ◌<◌, ◌≤◌, length, set, sym, refl, ap, ◌∙◌, subst, arith}
-use Rattle.rows.specs.Row.{at}
+use Rattle.std.proofs.Common.{◌+◌, ◌<◌, length, set, sym, ap, ◌∙◌, subst, arith}
 use Rattle.rows.proofs.Ops.{at_is}
 use Rattle.elimination.proofs.Telling.{Told, told_none, told_more, told_count, told_all}
 use Rattle.elimination.proofs.clash.tell_clash.Goals as goal
-use Rattle.elimination.proofs.clash.tell_clash.Goals.{then-not-is-zero, else-not-is-zero}
+use Rattle.elimination.proofs.clash.tell_clash.Goals.{then-not-is_zero, else-not-is_zero}
 
 pub loop-j-preserved : goal.loop-j-preserved
 loop-j-preserved g c =
@@ -20,8 +19,8 @@ loop-j-preserved g c =
     let room : c.loop-j.count < length c.loop-j.records = let f = c.loop-j.invariant.few in omega arith in
     let t = c.loop-j.invariant in
     elim c.if-not-is_zero.branch [
-      | then-not-is-zero x ↦ subst (λ k. Told K n w es old (j + 1) k c.if-not-is_zero.records) (sym x.count-is) (subst (λ rs. Told K n w es old (j + 1) (c.loop-j.count + 1) rs) (sym x.records-is) (told_more K n w es j h v is old c.loop-j.records c.loop-j.count room (sym x.if-not-is_zero.ensures) t))
-      | else-not-is-zero x ↦ subst (λ k. Told K n w es old (j + 1) k c.if-not-is_zero.records) (sym x.count-is) (subst (λ rs. Told K n w es old (j + 1) c.loop-j.count rs) (sym x.records-is) (told_none K n w es j h v is old c.loop-j.records c.loop-j.count (sym x.if-not-is_zero.ensures) t))
+      | then-not-is_zero x ↦ subst (λ k. Told K n w es old (j + 1) k c.if-not-is_zero.records) (sym x.count-is) (subst (λ rs. Told K n w es old (j + 1) (c.loop-j.count + 1) rs) (sym x.records-is) (told_more K n w es j h v is old c.loop-j.records c.loop-j.count room (sym x.if-not-is_zero.ensures) t))
+      | else-not-is_zero x ↦ subst (λ k. Told K n w es old (j + 1) k c.if-not-is_zero.records) (sym x.count-is) (subst (λ rs. Told K n w es old (j + 1) c.loop-j.count rs) (sym x.records-is) (told_none K n w es j h v is old c.loop-j.records c.loop-j.count (sym x.if-not-is_zero.ensures) t))
     ]
 
 pub returns : goal.returns

@@ -1,11 +1,11 @@
-use Rattle.std.proofs.Common.{◌≡◌, ℕ, ◌+◌, ◌-◌, ◌*◌, ◌<◌, ◌≤◌, List, length, get_or, take, drop, Ok, Err, sym, refl, ap, ◌∙◌, subst, ap₂, arith, get_or-drop, get_or-take, rules}
+use Rattle.std.proofs.Common.{◌≡◌, ◌+◌, ◌-◌, ◌<◌, ◌≤◌, length, take, drop, Ok, Err, sym, refl, ap, ◌∙◌, subst, ap₂, arith, get_or-drop, get_or-take, rules}
 use borrow.Rule.Slice.PartMut.{put_mid}
 use Rattle.std.proofs.lemmas.Result.{err_from_is_err_and}
 use Rattle.rows.specs.Row.{at, done, Leaves, over_row}
 use Rattle.rows.proofs.Ops.{at_is}
 use Rattle.elimination.specs.declared.fault.Step.TheVariants.{Divide}
 use Rattle.elimination.specs.Held.{wide, lines_place, row_place, row_at, held_lines}
-use Rattle.elimination.specs.Steps.{located, divided, back, holding}
+use Rattle.elimination.specs.Steps.{back, holding}
 use Rattle.elimination.proofs.Frames.{part_own, only_put, only_held, only_lines}
 use Rattle.elimination.proofs.Places.{row_fits, row_line, row_is, row_length, rest_past}
 use Rattle.elimination.proofs.Solving.{divide_stops, back_stops, both_made, nothing_held, rows_held}

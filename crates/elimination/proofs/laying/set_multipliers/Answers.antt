@@ -1,4 +1,4 @@
-use Rattle.std.proofs.Common.{◌≡◌, length, set, replicate, sym, refl, ap, ◌∙◌, ap₂, arith}
+use Rattle.std.proofs.Common.{length, replicate, sym, ap, ◌∙◌, arith}
 use lib.ListN.{length-replicate}
 use Rattle.std.proofs.lemmas.List.{set_past}
 use Rattle.elimination.specs.Steps.{one}

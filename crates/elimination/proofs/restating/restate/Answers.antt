@@ -1,17 +1,17 @@
-use Rattle.std.proofs.Common.{◌≡◌, ℕ, ◌+◌, ◌<◌, ◌≤◌, min, Bool, true, false, cond, List, [], length, get_or, take, drop, Some, None, sym, refl, ap, ◌∙◌, subst, ap₂, arith, length-take-le, take_all, get_or-take, rules}
+use Rattle.std.proofs.Common.{◌≡◌, ℕ, ◌+◌, ◌<◌, ◌≤◌, min, Bool, true, false, cond, List, [], length, get_or, take, drop, sym, refl, ap, ◌∙◌, subst, ap₂, arith, length-take-le, take_all, get_or-take}
 use native.Mathlib.Decide.{dec_le}
 use Rattle.ledger.specs.declared.entry.Entry.{Entry}
 use Rattle.ledger.specs.declared.ledger.Ledger.{Ledger}
 use Rattle.ledger.specs.Entries.{blank}
 use Rattle.ledger.specs.Listed.{listed, empty, holding}
-use Rattle.elimination.specs.Held.{used, size_in, line_place, held_lines, held_in}
+use Rattle.elimination.specs.Held.{used, size_in, held_lines, held_in}
 use Rattle.elimination.proofs.Shown.{held_is, held_count, sound_size}
 use Rattle.elimination.proofs.Tests.{at_most}
 use Rattle.elimination.specs.Again.{restated}
 use Rattle.elimination.specs.Stating.{entered}
 use Rattle.elimination.proofs.Restated.{Gone, gone_start, gone_size, gone_more, gone_all, verdict, entered_taken, entered_none, size_same, shown_few, first_lines}
 use Rattle.elimination.proofs.restating.restate.Goals as goal
-use Rattle.elimination.proofs.restating.restate.Goals.{in-Some+else-not-hold, in-default}
+use Rattle.elimination.proofs.restating.restate.Goals.{in-Some+else-not-hold, in_default}
 
 -- a ledger of as many set points
 same_size : (l l' : Ledger) (k : ℕ) → k ≡ (listed l).n → listed l' ≡ empty k → (listed l').n ≡ (listed l).n
@@ -74,7 +74,7 @@ loop-place-preserved g c =
     elim c.match-restate_line.branch [
       | in-Some+else-not-hold w ↦ more (ap listed w.ledger-is ∙ w.hold.ensures.after
           ∙ ap₂ (λ (b : Bool) j. cond b (holding j w.in-Some.subject l) l) w.if-not-hold.false same_label ∙ entered_taken v label w.in-Some.subject l (sym w.in-Some.is ∙ x.answer label))
-      | in-default w ↦ more (ap listed w.ledger-is ∙ entered_none v label l (sym w.in-default.is ∙ x.answer label))
+      | in_default w ↦ more (ap listed w.ledger-is ∙ entered_none v label l (sym w.in_default.is ∙ x.answer label))
     ]
 
 pub unreachable-requires : goal.unreachable-requires

@@ -1,4 +1,4 @@
-use Rattle.std.proofs.Common.{◌≡◌, ◌<◌, ◌≤◌, length, sym, refl, ap, ◌∙◌, subst, arith}
+use Rattle.std.proofs.Common.{◌<◌, ◌≤◌, length, sym, ap, ◌∙◌, subst, arith}
 use Rattle.ledger.specs.Listed.{listed}
 use Rattle.elimination.specs.Held.{needed, used}
 use Rattle.elimination.proofs.Places.{needed_small}

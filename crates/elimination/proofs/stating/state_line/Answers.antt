@@ -1,14 +1,13 @@
-use Rattle.std.proofs.Common.{◌≡◌, ◌+◌, ◌<◌, ◌≤◌, List, [], ◌∷◌, map, length, drop, Some, None, Ok, Err, sym, refl, ap, ◌∙◌, subst, ap₂, arith, rules}
+use Rattle.std.proofs.Common.{◌≡◌, ◌+◌, ◌<◌, ◌≤◌, map, length, Ok, Err, sym, refl, ap, ◌∙◌, subst, ap₂, arith, rules}
 use borrow.Author.Rules.{scaled_Fits}
 use Rattle.std.proofs.lemmas.Result.{err_from_is_err_and}
 use Rattle.exact.specs.Answers.{value_of}
-use Rattle.ledger.specs.Listed.{listed, holding}
-use Rattle.elimination.specs.Held.{wide, needed, used, row_place, lines_place, row_at, size_in, entries_in, held_lines, held_in, row_in}
-use Rattle.elimination.specs.Outcome.{spent, solved, found}
+use Rattle.ledger.specs.Listed.{listed}
+use Rattle.elimination.specs.Held.{wide, needed, row_place, size_in, held_lines, held_in}
+use Rattle.elimination.specs.Outcome.{spent, solved}
 use Rattle.elimination.specs.Working.{working, Remains}
 use Rattle.elimination.specs.Working.{HasPlace as Findable}
-use Rattle.elimination.proofs.Places.{row_fits, row_is, rest_past}
-use Rattle.elimination.proofs.Frames.{only_lines}
+use Rattle.elimination.proofs.Places.{row_fits, row_is}
 use Rattle.elimination.proofs.Shown.{held_is, row_shown, used_all}
 use Rattle.elimination.specs.declared.fault.SheetFault.TheVariants.{Numbers}
 use Rattle.elimination.specs.Stating.{stating, course, held_after, records_after, entered, Holdable}
@@ -108,7 +107,7 @@ offset_bounds-memory-at g c =
     let room : needed n ≤ length c.args.memory.now = subst (λ k. k ≤ length c.args.memory.now) (used_all n (omega (arith, z))) c.fitting-n.ensures.room in
     let f = row_fits n h c.fitting-n.ensures.held in
     let place : row_place n h < length c.args.memory.now = omega (arith, f, room) in
-    search (scaled_Fits, place, c.well-formed)
+    search (scaled_Fits, place, c.well_formed)
 
 pub slice_bounds-spent-end : goal.slice_bounds-spent-end
 slice_bounds-spent-end g c =

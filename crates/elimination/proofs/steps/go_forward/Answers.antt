@@ -1,10 +1,10 @@
-use Rattle.std.proofs.Common.{◌≡◌, ◌+◌, ◌*◌, ◌<◌, ◌≤◌, length, get_or, Err, sym, refl, ap, ◌∙◌, subst, arith}
+use Rattle.std.proofs.Common.{◌≡◌, ◌+◌, ◌≤◌, length, get_or, Err, sym, refl, ap, ◌∙◌, subst, arith}
 use Rattle.std.proofs.lemmas.Result.{err_from_is_err_and}
 use Rattle.ledger.specs.Entries.{blank}
-use Rattle.rows.specs.Row.{done, Leaves, cleared, clear_swept}
+use Rattle.rows.specs.Row.{done, cleared, clear_swept}
 use Rattle.rows.proofs.Ops.{clear_length, clear_leaves}
 use Rattle.elimination.specs.declared.fault.Step.TheVariants.{Forward}
-use Rattle.elimination.specs.Held.{wide, needed, row_place, row_at, OnlyRow}
+use Rattle.elimination.specs.Held.{wide, row_place, row_at, OnlyRow}
 use Rattle.elimination.specs.Steps.{located, forward}
 use Rattle.elimination.proofs.Frames.{part_own, put_row, only_none, only_then, only_put, only_same}
 use Rattle.elimination.proofs.Places.{row_fits, row_length}

@@ -1,10 +1,10 @@
-use Rattle.std.proofs.Common.{◌≡◌, ◌+◌, ◌<◌, ◌≤◌, length, drop, Some, None, Ok, Err, sym, refl, ap, ◌∙◌, subst, ap₂, arith, rules}
+use Rattle.std.proofs.Common.{◌≡◌, ◌+◌, ◌<◌, ◌≤◌, length, Some, None, Ok, Err, sym, refl, ap, ◌∙◌, subst, ap₂, arith, rules}
 use borrow.Author.Rules.{scaled_Fits}
 use Rattle.std.proofs.lemmas.Result.{err_from_is_err_and}
 use Rattle.rows.specs.Row.{done}
 use Rattle.elimination.specs.Held.{wide, row_place, row_at, held_lines}
 use Rattle.elimination.specs.Steps.{forward, subject, holding}
-use Rattle.elimination.specs.Outcome.{stuck, solved, found, solved_for, looked, work}
+use Rattle.elimination.specs.Outcome.{stuck, solved, found, solved_for, work}
 use Rattle.elimination.specs.Working.{Answers, HoldsRows, Left}
 use Rattle.elimination.proofs.Frames.{held_length, only_held, only_lines}
 use Rattle.elimination.proofs.Places.{row_fits, row_is}
@@ -16,7 +16,7 @@ pub offset_bounds-memory-at : goal.offset_bounds-memory-at
 offset_bounds-memory-at g c =
     let f = row_fits c.args.n (length c.args.entries.now) c.requires.held in
     let place : row_place c.args.n (length c.args.entries.now) < length c.args.memory.now = omega (arith, f, c.requires.room) in
-    search (scaled_Fits, place, c.well-formed)
+    search (scaled_Fits, place, c.well_formed)
 
 pub slice_bounds-subject_of-end : goal.slice_bounds-subject_of-end
 slice_bounds-subject_of-end g c =
@@ -68,8 +68,8 @@ returns-in-None g c =
       lines = only_lines n h m m₁ x.only c.requires.held;
     }
 
-pub returns-in_err-hold : goal.returns-in_err-hold
-returns-in_err-hold g c =
+pub returns-in_err-hold-in-Some : goal.returns-in_err-hold-in-Some
+returns-in_err-hold-in-Some g c =
     let K = g.K.Number.kind in
     let n = c.args.n in
     let es = c.args.entries.now in
@@ -85,10 +85,10 @@ returns-in_err-hold g c =
     let kept = only_held n h m m₁ x.only c.requires.held es (omega arith) in
     let went = made_ok (forward K 1 hs w) v (sym x.answer ∙ c.in_ok-go_forward.was) x.made in
     let some : subject K n (length hs) v ≡ Some q = ap₂ (subject K n) (held_length n m 0 es) (sym (row_is n h m₁)) ∙ sym c.subject_of.ensures.answer ∙ c.in-Some.is in
-    let f = c.in_err-hold.field-0.0 in
-    let p = err_from_is_err_and c.from_residual-in_err-hold.result c.from_residual-in_err-hold.ensures.1 in
-    let says : c.from_residual-in_err-hold.result ≡ Err f = p.1 ∙ ap Err p.2 in
-    let stopped = made_err (holding K q hs v) f (ap (λ gs. done (holding K q gs v)) (sym kept) ∙ sym c.hold.ensures.answer ∙ c.in_err-hold.was) in
+    let f = c.in_err-hold-in-Some.field-0.0 in
+    let p = err_from_is_err_and c.from_residual-in_err-hold-in-Some.result c.from_residual-in_err-hold-in-Some.ensures.1 in
+    let says : c.from_residual-in_err-hold-in-Some.result ≡ Err f = p.1 ∙ ap Err p.2 in
+    let stopped = made_err (holding K q hs v) f (ap (λ gs. done (holding K q gs v)) (sym kept) ∙ sym c.hold.ensures.answer ∙ c.in_err-hold-in-Some.was) in
     let all : work K n hs w ≡ stuck f = went_on K n hs w v (Some q) went some ∙ ap (solved_for K q) stopped in
     let rows : HoldsRows (Err f) n es m₁ m₂ = subst (λ r. HoldsRows r n es m₁ m₂) (ap (λ gs. holding K q gs v) kept ∙ stopped) c.hold.ensures.rows in
     record {
@@ -98,8 +98,8 @@ returns-in_err-hold g c =
       lines = c.hold.ensures.lines ∙ only_lines n h m m₁ x.only c.requires.held;
     }
 
-pub returns-in_ok-hold : goal.returns-in_ok-hold
-returns-in_ok-hold g c =
+pub returns-in_ok-hold-in-Some : goal.returns-in_ok-hold-in-Some
+returns-in_ok-hold-in-Some g c =
     let K = g.K.Number.kind in
     let n = c.args.n in
     let es = c.args.entries.now in
@@ -115,7 +115,7 @@ returns-in_ok-hold g c =
     let kept = only_held n h m m₁ x.only c.requires.held es (omega arith) in
     let went = made_ok (forward K 1 hs w) v (sym x.answer ∙ c.in_ok-go_forward.was) x.made in
     let some : subject K n (length hs) v ≡ Some q = ap₂ (subject K n) (held_length n m 0 es) (sym (row_is n h m₁)) ∙ sym c.subject_of.ensures.answer ∙ c.in-Some.is in
-    let made = made_from (holding K q hs v) (ap (λ gs. done (holding K q gs v)) (sym kept) ∙ sym c.hold.ensures.answer ∙ c.in_ok-hold.was) in
+    let made = made_from (holding K q hs v) (ap (λ gs. done (holding K q gs v)) (sym kept) ∙ sym c.hold.ensures.answer ∙ c.in_ok-hold-in-Some.was) in
     let all : work K n hs w ≡ solved q made.0.0 made.0.1 = went_on K n hs w v (Some q) went some ∙ ap (solved_for K q) made.1 in
     let rows : HoldsRows (Ok made.0) n es m₁ m₂ = subst (λ r. HoldsRows r n es m₁ m₂) (ap (λ gs. holding K q gs v) kept ∙ made.1) c.hold.ensures.rows in
     record {

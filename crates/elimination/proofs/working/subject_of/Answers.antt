@@ -1,4 +1,4 @@
-use Rattle.std.proofs.Common.{◌≡◌, ◌-◌, ◌≤◌, length, take, sym, refl, ap, ◌∙◌, subst, arith, length-take-le}
+use Rattle.std.proofs.Common.{◌≡◌, ◌-◌, length, take, sym, ap, ◌∙◌, subst, arith, length-take-le}
 use Rattle.rows.specs.Row.{highest}
 use Rattle.elimination.specs.Working.{Found}
 use Rattle.elimination.proofs.Subjects.{highest_take, subject_is, no_subject}

@@ -1,10 +1,10 @@
-use Rattle.std.proofs.Common.{◌≡◌, ℕ, ◌<◌, ◌≤◌, List, [], ◌∷◌, length, drop, Ok, Err, Option, Result, sym, refl, ap, ◌∙◌, subst, ap₂, arith}
+use Rattle.std.proofs.Common.{◌≡◌, ℕ, ◌≤◌, List, [], ◌∷◌, length, drop, Ok, Err, Option, Result, sym, refl, ap, ◌∙◌, subst, ap₂, arith}
 use Rattle.ledger.specs.declared.entry.Entry.{Entry}
 use Rattle.ledger.specs.Listed.{listed}
 use Rattle.elimination.specs.declared.fault.StepFault.{StepFault}
-use Rattle.elimination.specs.Held.{needed, used, lines_place, row_at, held_lines, held_in, row_in, size_in, entries_in}
+use Rattle.elimination.specs.Held.{lines_place, row_at, held_lines, held_in, row_in, size_in, entries_in}
 use Rattle.elimination.specs.Outcome.{spent, found, work}
-use Rattle.elimination.specs.Working.{working, Answers, HasPlace, Left, Remains}
+use Rattle.elimination.specs.Working.{working, Answers, Left, Remains}
 use Rattle.elimination.proofs.Always.{work_always}
 use Rattle.elimination.proofs.Shown.{held_is, row_shown, left_shows, holdable, used_all}
 use Rattle.elimination.proofs.Solving.{nothing_left}

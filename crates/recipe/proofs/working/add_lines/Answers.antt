@@ -39,4 +39,4 @@ loop-line-preserved g c =
     )
 
 pub returns : goal.returns
-returns g c = reached_all g.K.Number.kind (length c.args.records.now) _ _ _ _ _ _ c.loop-line.invariant.1 c.in-default.ensures.0
+returns g c = reached_all g.K.Number.kind (length c.args.records.now) _ _ _ _ _ _ c.loop-line.invariant.1 c.in_default.ensures.0

@@ -5,7 +5,7 @@ use Rattle.elimination.proofs.Tests.{equal, unequal}
 use Rattle.sheet.specs.Reading.{alone}
 use Rattle.sheet.proofs.Rows.{alone_more}
 use Rattle.sheet.proofs.reading.is_alone.Goals as goal
-use Rattle.sheet.proofs.reading.is_alone.Goals.{then-i-u+then-not-is-zero, else-i-u, else-i-u-via-then-i-u+else-not-is-zero, else-i-u-via-else-i-u}
+use Rattle.sheet.proofs.reading.is_alone.Goals.{then-i-u+then-not-is_zero, else-i-u, else-i-u-via-then-i-u+else-not-is_zero, else-i-u-via-else-i-u}
 
 pub loop-i-preserved : goal.loop-i-preserved
 loop-i-preserved g c =

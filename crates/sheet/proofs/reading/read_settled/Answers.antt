@@ -15,10 +15,10 @@ columns K n u j m h =
     let size : length (take n (row_at n m j)) ≡ n = length-take-le n (row_at n m j) (let s = row_length n j m h in omega (arith, s)) in
     ap (λ l. alone K u (length l) l) (ap (λ k. take k row) cut ∙ sym (take-take n (wide n) row (omega arith))) ∙ ap (λ k. alone K u k (take n (row_at n m j))) size ∙ alone_take K u n n (row_at n m j) (omega arith)
 
-pub returns-in-default : goal.returns-in-default
-returns-in-default g c =
+pub returns-in_default : goal.returns-in_default
+returns-in_default g c =
     let a = c.args in
-    sym (ap (λ o. told (value_in g.K.Number.kind a.n a.u o)) (row_missing a.n a.memory.now a.u a.entries.now (sym c.place_of.ensures.answer ∙ c.in-default.is)))
+    sym (ap (λ o. told (value_in g.K.Number.kind a.n a.u o)) (row_missing a.n a.memory.now a.u a.entries.now (sym c.place_of.ensures.answer ∙ c.in_default.is)))
 
 pub offset_bounds-memory-from : goal.offset_bounds-memory-from
 offset_bounds-memory-from g c =

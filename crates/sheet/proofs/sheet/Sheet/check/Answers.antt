@@ -45,7 +45,7 @@ slice_bounds-line_end g c =
 pub overflow_add-first : goal.overflow_add-first
 overflow_add-first g c =
     let a = c.args in
-    let low = low_labels c.fitting-n.result.0 (length a.list.now) a.first (length a.records.now) (sym c.in-default.ensures) c.loop-i.i (omega arith) in
+    let low = low_labels c.fitting-n.result.0 (length a.list.now) a.first (length a.records.now) (sym c.in_default.ensures) c.loop-i.i (omega arith) in
     search rules
 
 pub returns-in-Err-state : goal.returns-in-Err-state
@@ -58,7 +58,7 @@ returns-in-Err-state g c =
     let i = c.loop-i.i in
     let f = c.in-Err-state.fault in
     let x = c.in-Err-state.ensures in
-    let d = passed_whole K (contents s) list a.first a.records.now n (c.fitting-n.ensures.size ∙ size_shown s) c.in-default.field-0 c.in-default.ensures
+    let d = passed_whole K (contents s) list a.first a.records.now n (c.fitting-n.ensures.size ∙ size_shown s) c.in_default.field-0 c.in_default.ensures
     ∙ stops K list a.first (n + 1) (length list / (n + 1)) s a.records.now i c.loop-i.self c.loop-i.records (omega arith) c.loop-i.invariant _ (line_is (n + 1) i list) c.state.new.self c.state.new.records x.contents x.records f x.answer in
     record {
       answer = sym (ap (λ o. o.answer) d);
@@ -76,7 +76,7 @@ loop-i-preserved g c =
     let list = a.list.now in
     let n = c.fitting-n.result.0 in
     let i = c.loop-i.i in
-    let x = c.in-default-state.ensures in
+    let x = c.in_default-state.ensures in
     goes_on K list a.first (n + 1) (length list / (n + 1)) a.self.now a.records.now i c.loop-i.self c.loop-i.records (omega arith) c.loop-i.invariant _ (line_is (n + 1) i list) c.state.new.self c.state.new.records x.contents x.records _ x.answer x.rest x.lender
 
 pub returns : goal.returns
@@ -86,7 +86,7 @@ returns g c =
     let s = a.self.now in
     let list = a.list.now in
     let n = c.fitting-n.result.0 in
-    let d = passed_whole K (contents s) list a.first a.records.now n (c.fitting-n.ensures.size ∙ size_shown s) c.in-default.field-0 c.in-default.ensures
+    let d = passed_whole K (contents s) list a.first a.records.now n (c.fitting-n.ensures.size ∙ size_shown s) c.in_default.field-0 c.in_default.ensures
     ∙ ends K list a.first (n + 1) (length list / (n + 1)) s a.records.now c.loop-i.i c.loop-i.self c.loop-i.records (omega arith) (omega arith) c.loop-i.invariant in
     record {
       answer = sym (ap (λ o. o.answer) d);
