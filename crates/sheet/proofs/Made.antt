@@ -1,13 +1,12 @@
 -- A sheet just made.
-use Rattle.std.proofs.Common.{◌≡◌, ℕ, zero, suc, ◌<◌, ◌≤◌, Bool, true, false, cond, leb, List, [], ◌∷◌, length, Ok, Err, sym, refl, ap, ◌∙◌, subst, ap₂, arith}
+use Rattle.std.proofs.Common.{◌≡◌, ℕ, ◌≤◌, Bool, true, false, cond, leb, List, [], length, Ok, Err, sym, refl, ap, ◌∙◌, ap₂, arith}
 use native.Mathlib.Decide.{dec_le}
-use Rattle.ledger.specs.declared.entry.Entry.{Entry}
 use Rattle.ledger.specs.Listed.{Listed, empty}
 use Rattle.elimination.specs.declared.fault.SheetFault.TheVariants.{Size}
-use Rattle.elimination.specs.Held.{needed, size_in, entries_in, held_lines, held_in}
+use Rattle.elimination.specs.Held.{needed, size_in, held_in}
 use Rattle.elimination.proofs.Shown.{nothing_held}
 use Rattle.elimination.proofs.Tests.{at_most}
-use Rattle.sheet.specs.Contents.{Contents, size_fits, measured, size_made, fresh}
+use Rattle.sheet.specs.Contents.{Contents, measured, size_made, fresh}
 
 none : (b : Bool) → cond {A = ℕ} b 0 0 ≡ 0
 none true = refl

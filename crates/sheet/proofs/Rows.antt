@@ -1,16 +1,16 @@
 -- Reading rows off the memory.
-use Rattle.std.proofs.Common.{◌≡◌, ℕ, zero, suc, ◌+◌, ◌*◌, ◌<◌, ◌≤◌, Bool, true, false, cond, eqb, List, [], ◌∷◌, ◌++◌, length, get_or, take, drop, set, Some, None, Option, sym, refl, ap, ◌∙◌, subst, ap₂, add-one, arith, get_or-drop, get_or-take, take-take}
+use Rattle.std.proofs.Common.{◌≡◌, ℕ, zero, suc, ◌+◌, ◌<◌, ◌≤◌, Bool, true, false, cond, eqb, List, [], ◌∷◌, ◌++◌, length, get_or, take, drop, Some, None, Option, sym, refl, ap, ◌∙◌, add-one, arith, get_or-drop, get_or-take}
 use Rattle.std.proofs.lemmas.List.{at_drop_more, at_drop_all}
 use Rattle.exact.specs.Kind.{Kind}
 use Rattle.ledger.specs.declared.entry.Entry.{Entry}
 use Rattle.ledger.specs.Entries.{blank}
 use Rattle.rows.specs.Row.{at}
 use Rattle.rows.proofs.Ops.{at_is}
-use Rattle.elimination.specs.Held.{HeldLine, wide, used, row_place, row_at, held_line, held_lines}
+use Rattle.elimination.specs.Held.{wide, used, row_place, row_at, held_line, held_lines}
 use Rattle.elimination.proofs.Places.{row_fits, row_length}
 use Rattle.elimination.proofs.Shown.{used_all}
 use Rattle.elimination.proofs.Tests.{equal, unequal}
-use Rattle.sheet.specs.Reading.{row_for, alone, value_in, value_at, constant_in, constant_at, tabled, place_for, Within}
+use Rattle.sheet.specs.Reading.{row_for, alone, tabled, place_for}
 
 -- ---- the place of a line
 module _ (u j : ℕ) (es : List Entry) (h : j < length es) where

@@ -1,7 +1,6 @@
 -- What the answer of a line tells of its verdict.
-use Rattle.std.proofs.Common.{◌≡◌, ℕ, ◌+◌, List, length, Ok, Err, Result, sym, refl, ap, ◌∙◌, subst, ap₂, arith}
+use Rattle.std.proofs.Common.{◌≡◌, ℕ, ◌+◌, List, length, Ok, Err, sym, refl, ap, ◌∙◌, ap₂, arith}
 use Rattle.ledger.specs.Listed.{Listed, holding}
-use Rattle.elimination.specs.declared.course.Course.{Course}
 use Rattle.elimination.specs.declared.course.Course.TheVariants.{Follows, Taken}
 use Rattle.elimination.specs.declared.fault.SheetFault.{SheetFault}
 use Rattle.elimination.specs.declared.fault.SheetFault.TheVariants.{Clash}

@@ -1,5 +1,5 @@
 -- What a sheet stores, and what stating a line makes of it.
-use Rattle.std.specs.Prelude.{ℕ, ◌+◌, Bool, true, false, cond, List, [], length, ℤ, Ok, Err, Result, nat_le}
+use Rattle.std.specs.Prelude.{ℕ, ◌+◌, Bool, false, cond, List, [], length, ℤ, Ok, Err, Result, nat_le}
 use Rattle.exact.specs.Kind.{Kind}
 use Rattle.ledger.specs.Listed.{listed}
 use Rattle.ledger.specs.Marked.{marked}

@@ -1,4 +1,6 @@
 // A sheet of lines over set points, in exact numbers of any kind.
+#![tactic(auto)]
+
 pub mod answer;
 pub mod fault;
 mod reading;

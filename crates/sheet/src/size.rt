@@ -1,8 +1,8 @@
 ghost use Rattle.std.specs.Prelude.{◌≡◌};
 ghost use Rattle.sheet.specs.Contents.{measured};
 
-use ledger::limits::MOST_SET_POINTS;
 use elimination::fault::SheetFault;
+use ledger::limits::MOST_SET_POINTS;
 
 // How many numbers a sheet of n set points needs. Refused where n is not 1 to 48, or `length` numbers are too few.
 pub fn measure(n: usize, length: usize) -> Result<usize, SheetFault>

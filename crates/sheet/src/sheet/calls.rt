@@ -9,15 +9,14 @@ ghost use Rattle.sheet.specs.Reading.{settled_answer, solution_answer, solution_
 use super::Sheet;
 use crate::answer::{Settled, Stated};
 use crate::reading::{read_settled, write_solution};
-use elimination::stating::fitting;
+use elimination::course::Course;
+use elimination::fault::SheetFault;
+use elimination::record::Record;
+use elimination::stating::{fitting, state_line};
 use exact::number::Number;
 use ledger::ledger::Ledger;
 use ledger::marks::Marks;
 use ledger::waits::Waits;
-use elimination::course::Course;
-use elimination::fault::SheetFault;
-use elimination::stating::state_line;
-use elimination::record::Record;
 
 impl<'a, K: Number> Sheet<'a, K> {
     // Never refuses: where n or the memory would not measure up, the sheet has no set point.

@@ -7,10 +7,10 @@ ghost use Rattle.sheet.specs.Listing.{labels_fit, list_refusal, checking};
 
 use super::Sheet;
 use crate::fault::ListFault;
-use elimination::stating::fitting;
-use exact::number::Number;
 use elimination::fault::SheetFault;
 use elimination::record::Record;
+use elimination::stating::fitting;
+use exact::number::Number;
 
 const MOST_LINES: usize = 1_000;
 

@@ -5,10 +5,10 @@ ghost use Rattle.sheet.specs.Trials.{innermost, open_answer, open_after, closing
 
 use super::Sheet;
 use crate::trial::{HandedBack, Trial};
-use elimination::stating::fitting;
-use exact::number::Number;
 use elimination::fault::SheetFault;
 use elimination::restating::restate;
+use elimination::stating::fitting;
+use exact::number::Number;
 
 impl<'a, K: Number> Sheet<'a, K> {
     // Opens a trial inside those that are open. Refused where eight are.

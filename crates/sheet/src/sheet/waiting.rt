@@ -4,8 +4,8 @@ ghost use Rattle.sheet.specs.Reading.{is_set_point};
 ghost use Rattle.sheet.specs.Waits.{wait_answer, wait_after, drop_answer, drop_after};
 
 use super::Sheet;
-use exact::number::Number;
 use elimination::fault::SheetFault;
+use exact::number::Number;
 
 impl<'a, K: Number> Sheet<'a, K> {
     // Waits for the set point q, counted from 1 and settled or not. Refused where a wait for it stands.

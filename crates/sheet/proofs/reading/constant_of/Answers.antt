@@ -1,4 +1,4 @@
-use Rattle.std.proofs.Common.{◌≡◌, ◌+◌, ◌*◌, ◌<◌, ◌≤◌, length, sym, refl, ap, ◌∙◌, arith}
+use Rattle.std.proofs.Common.{length, sym, ap, ◌∙◌, arith}
 use Rattle.sheet.specs.Reading.{constant_in}
 use Rattle.sheet.proofs.Rows.{row_found, row_missing, row_inside, number_in}
 use Rattle.sheet.proofs.reading.constant_of.Goals as goal

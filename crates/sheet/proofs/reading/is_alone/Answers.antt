@@ -1,4 +1,4 @@
-use Rattle.std.proofs.Common.{◌≡◌, Bool, true, false, cond, eqb, sym, refl, ap, ◌∙◌, ap₂, arith}
+use Rattle.std.proofs.Common.{Bool, true, false, cond, sym, ap, ◌∙◌, ap₂, arith}
 use Rattle.rows.specs.Row.{at}
 use Rattle.rows.proofs.Ops.{at_is}
 use Rattle.elimination.proofs.Tests.{equal, unequal}

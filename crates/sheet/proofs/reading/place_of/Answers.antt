@@ -1,4 +1,4 @@
-use Rattle.std.proofs.Common.{◌≡◌, sym, refl, ◌∙◌, arith}
+use Rattle.std.proofs.Common.{sym, refl, ◌∙◌}
 use Rattle.sheet.proofs.Rows.{place_here, place_later, place_nowhere}
 use Rattle.sheet.proofs.reading.place_of.Goals as goal
 

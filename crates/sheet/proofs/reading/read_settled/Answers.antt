@@ -1,4 +1,4 @@
-use Rattle.std.proofs.Common.{◌≡◌, ℕ, ◌+◌, ◌-◌, ◌*◌, ◌<◌, ◌≤◌, Bool, true, false, cond, List, length, take, drop, Some, None, sym, refl, ap, ◌∙◌, ap₂, arith, length-take-le, take-take, rules}
+use Rattle.std.proofs.Common.{◌≡◌, ℕ, ◌+◌, ◌-◌, ◌≤◌, Bool, true, false, cond, List, length, take, drop, Some, None, sym, ap, ◌∙◌, arith, length-take-le, take-take, rules}
 use Rattle.exact.specs.Kind.{Kind}
 use Rattle.rows.specs.Row.{at}
 use Rattle.elimination.specs.Held.{wide, row_place, row_at}

@@ -1,4 +1,4 @@
-use Rattle.std.proofs.Common.{◌≡◌, ◌+◌, ◌<◌, ◌≤◌, [], ◌∷◌, ◌++◌, length, take, drop, set, sym, refl, ap, ◌∙◌, ap₂, arith, take-append-drop, drop-drop, drop-set-lt}
+use Rattle.std.proofs.Common.{◌≡◌, ◌+◌, ◌<◌, [], ◌∷◌, ◌++◌, length, drop, sym, refl, ap, ◌∙◌, ap₂, arith, take-append-drop, drop-drop, drop-set-lt}
 use Rattle.std.proofs.lemmas.List.{take_more_set}
 use Rattle.elimination.specs.Held.{held_lines}
 use Rattle.sheet.specs.Reading.{constant_at, tabled}

@@ -1,4 +1,4 @@
-use Rattle.std.proofs.Common.{◌≡◌, ℕ, ◌+◌, ◌*◌, ◌/◌, ◌≤◌, length, Ok, Err, Result, sym, refl, ap, ◌∙◌, arith, rules}
+use Rattle.std.proofs.Common.{◌≡◌, ℕ, ◌+◌, ◌/◌, length, Ok, Err, Result, sym, refl, ap, ◌∙◌, arith, rules}
 use Rattle.elimination.specs.declared.fault.SheetFault.{SheetFault}
 use Rattle.elimination.specs.declared.fault.SheetFault.TheVariants.{Numbers}
 use Rattle.sheet.specs.declared.fault.ListFault.{ListFault}
@@ -36,8 +36,8 @@ loop-i-init g c =
     let n = c.fitting-n.result.0 in
     begins g.K.Number.kind list c.args.first (n + 1) (length list / (n + 1)) c.args.self.now c.args.records.now
 
-pub slice_bounds-line_end : goal.slice_bounds-line_end
-slice_bounds-line_end g c =
+pub slice_bounds-line-end : goal.slice_bounds-line-end
+slice_bounds-line-end g c =
     let w = c.fitting-n.result.0 + 1 in
     let inside = line_inside w c.loop-i.i (length c.args.list.now) (omega arith) in
     search rules

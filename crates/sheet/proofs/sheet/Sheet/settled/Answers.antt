@@ -1,7 +1,6 @@
 use Rattle.std.proofs.Common.{◌≡◌, ℕ, ◌-◌, ◌<◌, ◌≤◌, Bool, true, false, cond, leb, length, Ok, Err, sym, refl, ap, ◌∙◌, ap₂, ⊎_elim}
 use Rattle.ledger.specs.Listed.{listed}
 use Rattle.elimination.specs.declared.fault.SheetFault.TheVariants.{SetPoint}
-use Rattle.elimination.specs.Held.{size_in, held_in}
 use Rattle.elimination.proofs.Shown.{held_is}
 use Rattle.elimination.proofs.Tests.{at_most, above}
 use Rattle.sheet.specs.Contents.{contents}

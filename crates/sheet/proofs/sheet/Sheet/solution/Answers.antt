@@ -1,4 +1,4 @@
-use Rattle.std.proofs.Common.{◌≡◌, ℕ, ◌<◌, ◌≤◌, Bool, true, false, cond, leb, ◌++◌, length, drop, Ok, Err, sym, refl, ap, ◌∙◌, ap₂}
+use Rattle.std.proofs.Common.{◌≡◌, Bool, true, false, cond, leb, ◌++◌, length, drop, Ok, Err, sym, refl, ap, ◌∙◌, ap₂}
 use Rattle.ledger.specs.Listed.{listed}
 use Rattle.elimination.specs.declared.fault.SheetFault.TheVariants.{Room}
 use Rattle.elimination.proofs.Tests.{at_most, above}

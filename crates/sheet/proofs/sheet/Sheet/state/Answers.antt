@@ -1,15 +1,14 @@
-use Rattle.std.proofs.Common.{◌≡◌, ℕ, ◌+◌, Bool, cond, length, drop, Ok, Err, Result, sym, refl, ap, ◌∙◌, subst, ap₂, arith}
+use Rattle.std.proofs.Common.{◌≡◌, ℕ, ◌+◌, Bool, cond, length, Ok, Err, Result, sym, refl, ap, ◌∙◌, arith}
 use Rattle.std.proofs.lemmas.Result.{err_from_is_err_and}
 use Rattle.ledger.specs.Listed.{listed, holding}
 use Rattle.ledger.specs.Marked.{marked}
 use Rattle.ledger.specs.Waiting.{waiting}
 use Rattle.elimination.specs.declared.fault.SheetFault.{SheetFault}
 use Rattle.elimination.specs.declared.fault.SheetFault.TheVariants.{Numbers}
-use Rattle.elimination.specs.Held.{size_in, entries_in, held_in}
-use Rattle.elimination.specs.Stating.{stating, course}
+use Rattle.elimination.specs.Held.{held_in}
 use Rattle.sheet.specs.declared.answer.Stated.{Stated}
 use Rattle.sheet.specs.declared.answer.Stated.TheVariants.{Held}
-use Rattle.sheet.specs.Contents.{Contents, contents, stated, verdict}
+use Rattle.sheet.specs.Contents.{contents, verdict}
 use Rattle.sheet.proofs.Stating.{refused_is, follows_is, taken_is, contents_after}
 use Rattle.elimination.proofs.Shown.{held_count}
 use Rattle.sheet.proofs.sheet.Sheet.state.Goals as goal

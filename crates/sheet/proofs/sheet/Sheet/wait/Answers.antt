@@ -1,4 +1,4 @@
-use Rattle.std.proofs.Common.{◌≡◌, not, length, Ok, Err, sym, refl, ap, ◌∙◌}
+use Rattle.std.proofs.Common.{not, length, Ok, Err, sym, refl, ap, ◌∙◌}
 use Rattle.ledger.specs.Waiting.{stands, placed}
 use Rattle.elimination.specs.declared.fault.SheetFault.TheVariants.{SetPoint, Waiting}
 use Rattle.sheet.specs.Contents.{contents, with_waits}

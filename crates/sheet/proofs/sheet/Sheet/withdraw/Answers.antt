@@ -1,4 +1,4 @@
-use Rattle.std.proofs.Common.{◌≡◌, cond, leb, [], length, take, drop, Ok, Err, sym, refl, ap, ◌∙◌, subst, ap₂}
+use Rattle.std.proofs.Common.{◌≡◌, cond, leb, [], length, take, drop, Err, sym, ap, ◌∙◌, subst, ap₂}
 use Rattle.std.proofs.lemmas.Result.{err_from_is_err_and}
 use Rattle.ledger.specs.Listed.{listed}
 use Rattle.ledger.specs.Marked.{marked, older}

@@ -1,4 +1,4 @@
-use Rattle.std.proofs.Common.{◌≡◌, false, leb, ap, ◌∙◌, arith}
+use Rattle.std.proofs.Common.{leb, ap, ◌∙◌, arith}
 use Rattle.elimination.proofs.Tests.{above}
 use Rattle.sheet.proofs.Checking.{labels_low, labels_high}
 use Rattle.sheet.proofs.sheet.listing.labels_fit.Goals as goal
