@@ -1,4 +1,6 @@
 // Prints the transcript of a recipe: of the file that the first argument names, or of the standard input.
+#![tactic(auto)]
+
 use recipe::transcript::transcript;
 use std::io::Read;
 use std::{env, fs, io};

@@ -3,9 +3,9 @@ ghost use Rattle.reading.specs.Reading.{meaning_of};
 ghost use Rattle.placing.specs.Columns.{start, column, number_at, fault_placed};
 
 use crate::fault::TextFault;
+use elimination::fault::SheetFault;
 use reading::line::Line;
 use reading::term::Term;
-use elimination::fault::SheetFault;
 
 // The column where the coefficient of a set point begins, 0 where it has no digit.
 fn start_of(terms: &[Term], set_point: usize) -> usize

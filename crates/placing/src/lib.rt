@@ -1,4 +1,6 @@
 // The numbers of a recipe line, and every fault of the text.
+#![tactic(auto)]
+
 mod check;
 pub mod column;
 pub mod fault;

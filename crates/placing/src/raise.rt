@@ -3,10 +3,10 @@ ghost use Rattle.placing.specs.Faults.{text_report, form_raised, heading_raised,
 
 use crate::fault::TextFault;
 use cutting::heading::HeadingFault;
+use elimination::fault::SheetFault;
 use exact::report::{Layer, Report};
 use printing::fault::PrintFault;
 use reading::fault::FormFault;
-use elimination::fault::SheetFault;
 
 impl From<FormFault> for TextFault {
     ghost from_gives = { λ x r. r ≡ form_raised x };

@@ -2,13 +2,13 @@ ghost use Rattle.std.specs.Prelude.{◌≡◌, ◌≤◌, length, take};
 ghost use Rattle.printing.specs.Rows.{held_row, follows_row, clash_row, refused_row, settled_row};
 ghost use Rattle.recipe.specs.Added.{Added, parts_told, entry_of, entries_of};
 
+use elimination::record::Record;
 use exact::report::Report;
 use exact::shown::{Parts, Shown};
 use printing::entry::Entry;
 use printing::row::{
     MOST_ENTRIES, ROW_BYTES, clash_row, follows_row, held_row, refused_row, settled_row,
 };
-use elimination::record::Record;
 use std::alloc::AllocError;
 
 // Each adds one row to the output. The buffer suffices for any row, so none is refused.

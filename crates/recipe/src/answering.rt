@@ -3,11 +3,11 @@ ghost use Rattle.recipe.specs.Added.{Added};
 ghost use Rattle.recipe.specs.Evidence.{clash_count, sheet_count, Within, Evident, answer_row, fault_row};
 
 use crate::adding::{add_clash, add_follows, add_held, add_refused};
+use elimination::fault::SheetFault;
+use elimination::record::Record;
 use exact::shown::Shown;
 use placing::fault::TextFault;
 use sheet::answer::Stated;
-use elimination::fault::SheetFault;
-use elimination::record::Record;
 use std::alloc::AllocError;
 
 // Adds the row of a line that was answered so.

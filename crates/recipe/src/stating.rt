@@ -1,13 +1,13 @@
 ghost use Rattle.sheet.specs.Contents.{contents};
 ghost use Rattle.recipe.specs.Run.{Tried};
 
+use elimination::record::Record;
 use exact::number::Number;
 use placing::column::refusal_of;
 use placing::fault::TextFault;
 use placing::numbers::read_numbers;
 use sheet::answer::Stated;
 use sheet::sheet::Sheet;
-use elimination::record::Record;
 
 // The numbers of a line of the largest sheet.
 const MOST_NUMBERS: usize = 49;

@@ -10,6 +10,7 @@ use crate::settling::add_all_settled;
 use crate::stating::state_text;
 use cutting::heading::{Heading, KindLetter};
 use cutting::lines::Lines;
+use elimination::record::Record;
 use exact::shown::Shown;
 use exact::value::zero;
 use fractions::ratio::Ratio;
@@ -17,7 +18,6 @@ use residues::index::Index;
 use residues::parity::Parity;
 use sheet::sheet::Sheet;
 use sheet::size::measure;
-use elimination::record::Record;
 use std::alloc::{AllocError, Global};
 
 // Works the lines after a heading, in the numbers of its kind.

@@ -1,4 +1,6 @@
 // Whole recipes, and what is printed of them.
+#![tactic(auto)]
+
 #[cfg(test)]
 mod case;
 #[cfg(test)]

@@ -1,4 +1,6 @@
 // Runs of a sheet at its limits.
+#![tactic(auto)]
+
 #[cfg(test)]
 mod limits;
 #[cfg(test)]

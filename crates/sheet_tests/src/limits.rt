@@ -1,9 +1,9 @@
+use elimination::fault::SheetFault;
+use elimination::record::Record;
 use exact::value::zero;
 use fractions::ratio::Ratio;
 use sheet::answer::{Settled, Stated};
 use sheet::sheet::Sheet;
-use elimination::fault::SheetFault;
-use elimination::record::Record;
 use std::test::Fail;
 
 pub(crate) fn blank() -> Record<Ratio> {

@@ -1,11 +1,11 @@
 use crate::limits::blank;
+use elimination::fault::SheetFault;
+use elimination::record::Record;
 use exact::value::zero;
 use fractions::ratio::Ratio;
 use sheet::answer::Stated;
 use sheet::fault::ListFault;
 use sheet::sheet::Sheet;
-use elimination::fault::SheetFault;
-use elimination::record::Record;
 use std::test::Fail;
 
 fn stopped(index: usize, fault: SheetFault) -> Result<usize, ListFault> {

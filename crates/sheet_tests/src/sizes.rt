@@ -1,10 +1,10 @@
+use elimination::fault::SheetFault;
+use elimination::record::Record;
 use exact::value::zero;
 use fractions::ratio::Ratio;
 use sheet::answer::Stated;
 use sheet::sheet::Sheet;
 use sheet::size::measure;
-use elimination::fault::SheetFault;
-use elimination::record::Record;
 use std::test::Fail;
 
 #[test]

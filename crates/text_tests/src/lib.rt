@@ -1,4 +1,6 @@
 // The text form on examples.
+#![tactic(auto)]
+
 #[cfg(test)]
 mod lines;
 #[cfg(test)]

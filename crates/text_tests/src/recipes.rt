@@ -1,7 +1,7 @@
+use elimination::fault::SheetFault;
 use placing::column::refusal_of;
 use placing::numbers::read_numbers;
 use reading::read::read_line;
-use elimination::fault::SheetFault;
 use std::test::Fail;
 
 // The column where a text stops being a line, 0 where it is one.

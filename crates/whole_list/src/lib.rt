@@ -1,13 +1,15 @@
 // A caller of the sheet that works in a trial: a list is taken whole or not at all.
+#![tactic(auto)]
+
 ghost use Rattle.std.specs.Prelude.{◌≡◌, drop};
 ghost use Rattle.elimination.specs.Held.{used};
 ghost use Rattle.sheet.specs.Contents.{contents};
 ghost use Rattle.whole_list.specs.Whole.{checking_whole};
 
+use elimination::record::Record;
 use exact::number::Number;
 use sheet::fault::ListFault;
 use sheet::sheet::Sheet;
-use elimination::record::Record;
 
 // Checks a list inside a trial, and answers what the check answered. Where every line passed, they stay; where one was refused, those
 // before it are taken back. With eight trials open the list is refused as a whole.

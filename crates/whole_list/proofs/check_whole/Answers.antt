@@ -1,10 +1,10 @@
-use Rattle.std.proofs.Common.{◌≡◌, drop, sym, ap, ◌∙◌}
+use Rattle.std.proofs.Common.{drop, sym, ap, ◌∙◌}
 use Rattle.elimination.specs.Held.{used}
 use Rattle.sheet.specs.Contents.{contents}
 use Rattle.sheet.proofs.Closing.{never_back}
 use Rattle.whole_list.proofs.Tried.{not_tried, still_open, tried, past}
 use Rattle.whole_list.proofs.check_whole.Goals as goal
-use Rattle.whole_list.proofs.check_whole.Goals.{then-is-ok, else-is-ok}
+use Rattle.whole_list.proofs.check_whole.Goals.{then-is_ok, else-is_ok}
 
 pub returns-in-Err : goal.returns-in-Err
 returns-in-Err g c =
@@ -31,8 +31,8 @@ unreachable-requires g c =
     let stays = still_open g.K.Number.kind S (contents c.open.new.self) a.list.now a.first a.records.now c.open.ensures.contents t opened T x.ensures.contents in
     let never = never_back S t opened T stays c.in-Err-closed.field-0 in
     elim c.if-is_ok.branch [
-      | then-is-ok w ↦ never (sym w.keep-closed.ensures.answer ∙ sym w.closed-is ∙ c.in-Err-closed.is)
-      | else-is-ok w ↦ never (sym w.withdraw-closed.ensures.answer ∙ sym w.closed-is ∙ c.in-Err-closed.is)
+      | then-is_ok w ↦ never (sym w.keep-closed.ensures.answer ∙ sym w.closed-is ∙ c.in-Err-closed.is)
+      | else-is_ok w ↦ never (sym w.withdraw-closed.ensures.answer ∙ sym w.closed-is ∙ c.in-Err-closed.is)
     ]
 
 pub returns : goal.returns
@@ -49,7 +49,7 @@ returns g c =
     let comes_to = tried K (contents s) (contents s₁) a.list.now a.first a.records.now o.contents t opened (contents s₂) x.contents c.check-answer.result c.check-answer.new.records in
     let rest = past K (contents s) (contents s₁) a.list.now a.first a.records.now o.contents t opened (contents s₂) x.contents s.memory.now s₁.memory.now s₂.memory.now in
     elim c.if-is_ok.branch [
-      | then-is-ok w ↦
+      | then-is_ok w ↦
           let y = w.keep-closed.ensures in
           let d = comes_to _ x.answer x.records w.if-is_ok.ensures.value in
           record {
@@ -59,7 +59,7 @@ returns g c =
             rest = ap (λ z. drop (used (contents s).n) z.memory.now) w.sheet-is ∙ rest _ o.memory x.rest (ap (drop (used (contents s₂).n)) y.memory);
             lender = ap (λ z. z.memory.ghost_name) w.sheet-is ∙ y.lender ∙ x.lender ∙ o.lender;
           }
-      | else-is-ok w ↦
+      | else-is_ok w ↦
           let y = w.withdraw-closed.ensures in
           let d = comes_to _ x.answer x.records w.if-is_ok.ensures.value in
           record {
