@@ -1,7 +1,7 @@
 -- Where a line ends.
 use Rattle.std.proofs.Common.{◌≡◌, ℕ, zero, suc, ◌+◌, ◌-◌, ◌<◌, ◌≤◌, cond, List, [], ◌∷◌, length, get_or, take, drop, sym, refl, ap, ◌∙◌, add-one, arith, length-drop, eq-eqb, ne_eqb}
 use Rattle.std.proofs.lemmas.List.{take_all, drop_all}
-use Rattle.cutting.specs.Lines.{before, lines, labelled}
+use Rattle.cutting.specs.Lines.{before, lines}
 
 -- at the first byte 10, or at the end of what is not empty
 cut_at : (bs : List ℕ) (k : ℕ) → 0 < length bs → k ≤ length bs → ((j : ℕ) → j < k → get_or bs j 0 ≡ 10 → ⊥) → (k < length bs → get_or bs k 0 ≡ 10) → lines bs ≡ take k bs ∷ lines (drop (suc k) bs)

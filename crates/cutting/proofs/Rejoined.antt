@@ -1,7 +1,7 @@
 -- The lines of a text are the text.
 use Rattle.std.proofs.Common.{◌≡◌, ℕ, zero, suc, Bool, true, false, cond, eqb, List, [], ◌∷◌, sym, refl, ap, ◌∙◌, arith, eqb-true}
 use borrow.Author.Tests.{eqb-false}
-use Rattle.std.specs.List.{AllByRecursion as All}
+use Rattle.std.specs.List.{AllByRecursion}
 use Rattle.cutting.specs.Lines.{before, lines}
 use Rattle.cutting.specs.Joined.{rejoined, ended, Unbroken}
 
@@ -28,14 +28,14 @@ longer : (b : ℕ) (l : List ℕ) → (b ≡ 10 → ⊥) → Unbroken l → Unbr
 longer b l n h zero k = n
 longer b l n h (suc i) k = h i (omega arith)
 
-put_before : (b : ℕ) (ls : List (List ℕ)) → (b ≡ 10 → ⊥) → All Unbroken ls → All Unbroken (before b ls)
+put_before : (b : ℕ) (ls : List (List ℕ)) → (b ≡ 10 → ⊥) → AllByRecursion Unbroken ls → AllByRecursion Unbroken (before b ls)
 put_before b [] n h = (longer b [] n none, tt)
 put_before b (l ∷ ls) n h = (longer b l n h.0, h.1)
 
-unbroken_by : (v : Bool) (b : ℕ) (bs : List ℕ) → v ≡ eqb b 10 → All Unbroken (lines bs) → All Unbroken (cond v ([] ∷ lines bs) (before b (lines bs)))
+unbroken_by : (v : Bool) (b : ℕ) (bs : List ℕ) → v ≡ eqb b 10 → AllByRecursion Unbroken (lines bs) → AllByRecursion Unbroken (cond v ([] ∷ lines bs) (before b (lines bs)))
 unbroken_by true b bs e h = (none, h)
 unbroken_by false b bs e h = put_before b (lines bs) (eqb-false b 10 (sym e)) h
 
-pub unbroken : (text : List ℕ) → All Unbroken (lines text)
+pub unbroken : (text : List ℕ) → AllByRecursion Unbroken (lines text)
 unbroken [] = tt
 unbroken (b ∷ bs) = unbroken_by (eqb b 10) b bs refl (unbroken bs)

@@ -1,6 +1,6 @@
 -- What the lines of an input have to do with its bytes.
 use Rattle.std.specs.Prelude.{◌≡◌, ℕ, ◌<◌, cond, List, [], ◌∷◌, ◌++◌, length, ◌==◌, ◌≢◌, slice_index}
-use Rattle.std.specs.List.{AllByRecursion as All}
+use Rattle.std.specs.List.{AllByRecursion}
 use Rattle.cutting.specs.Lines.{lines}
 
 -- each line with byte 10 after it
@@ -19,4 +19,4 @@ Unbroken l = (k : ℕ) → k < length l → slice_index l k ≢ 10
 
 pub record Cuts : Type 0 where
   pub whole : (text : List ℕ) → rejoined (lines text) ≡ ended text
-  pub unbroken : (text : List ℕ) → All Unbroken (lines text)
+  pub unbroken : (text : List ℕ) → AllByRecursion Unbroken (lines text)

@@ -1,4 +1,6 @@
 // The lines of an input, and its heading.
+#![tactic(auto)]
+
 pub mod heading;
 pub mod laws;
 pub mod lines;

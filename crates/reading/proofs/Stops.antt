@@ -7,7 +7,7 @@ use Rattle.reading.specs.declared.stage.Stage.{Stage}
 use Rattle.reading.specs.declared.stage.Stage.TheVariants.{Opening, Signed, Coefficient, Named, Number, Right, Negated, Constant}
 use Rattle.reading.specs.declared.stage.Move.{Move}
 use Rattle.reading.specs.declared.stage.Move.TheVariants.{Go, Ends, Stop}
-use Rattle.reading.specs.Form.{Meaning, term_of, constant, more, IsLine}
+use Rattle.reading.specs.Form.{Meaning, term_of, IsLine}
 use Rattle.reading.specs.Marks.{mark}
 use Rattle.reading.specs.Steps.{figure_of, named, move, Outcome, means, stops, final, onward, reading}
 use Rattle.reading.specs.Reading.{GoesOn, Breaks, Reads}

@@ -1,4 +1,6 @@
 // The form of a recipe line, and its reader.
+#![tactic(auto)]
+
 pub mod fault;
 pub mod laws;
 pub mod line;

@@ -12,7 +12,7 @@ loop-k-init c = (nothing c.args.out.now c.args.at (omega arith), omega arith)
 pub loop-k-preserved : goal.loop-k-preserved
 loop-k-preserved c =
     entry_on c.args.out.now c.loop-k.out _ c.args.at c.args.entries.now c.loop-k.k c.loop-k.next _ _ c.loop-k-test.true (omega arith)
-    c.loop-k.invariant.0 c.loop-k.invariant.1 c.put-entry-next.ensures.after c.put-entry-next.ensures.next c.put-entry-next.ensures.short
+    c.loop-k.invariant.0 c.loop-k.invariant.1 c.put_entry-next.ensures.after c.put_entry-next.ensures.next c.put_entry-next.ensures.short
 
 pub returns : goal.returns
 returns c =

@@ -6,21 +6,21 @@ use Rattle.printing.proofs.Over.{nothing, on}
 use Rattle.printing.proofs.Texts.{whole, broken, length_ratio, front}
 use Rattle.printing.proofs.put.put_value.Goals as goal
 
-pub put-signed-next-requires : goal.put-signed-next-requires
-put-signed-next-requires c =
+pub put_signed-next-requires : goal.put_signed-next-requires
+put_signed-next-requires c =
     let z : SFits w32 c.args.value.top = search rules in
     subst (λ v. c.args.at + length (signed_decimal v) ≤ length c.args.out.now) (sym (to_z-of_z w32 c.args.value.top z)) (omega (arith, front c.args.value))
 
-pub put-byte-digits-requires : goal.put-byte-digits-requires
-put-byte-digits-requires c =
+pub put_byte-digits-requires : goal.put_byte-digits-requires
+put_byte-digits-requires c =
     let z : SFits w32 c.args.value.top = search rules in
-    let e = c.put-signed-next.ensures.next ∙ ap (λ v. c.args.at + length (signed_decimal v)) (to_z-of_z w32 c.args.value.top z) in
+    let e = c.put_signed-next.ensures.next ∙ ap (λ v. c.args.at + length (signed_decimal v)) (to_z-of_z w32 c.args.value.top z) in
     omega (arith, ap length (broken c.args.value c.if-value-eq1.false), length_ratio c.args.value)
 
-pub put-number-requires : goal.put-number-requires
-put-number-requires c =
+pub put_number-requires : goal.put_number-requires
+put_number-requires c =
     let z : SFits w32 c.args.value.top = search rules in
-    let e = c.put-signed-next.ensures.next ∙ ap (λ v. c.args.at + length (signed_decimal v)) (to_z-of_z w32 c.args.value.top z) in
+    let e = c.put_signed-next.ensures.next ∙ ap (λ v. c.args.at + length (signed_decimal v)) (to_z-of_z w32 c.args.value.top z) in
     omega (arith, ap length (broken c.args.value c.if-value-eq1.false), length_ratio c.args.value)
 
 pub returns-then-value-eq1 : goal.returns-then-value-eq1
@@ -29,8 +29,8 @@ returns-then-value-eq1 c =
     let f = to_z-of_z w32 c.args.value.top z in
     let w = whole c.args.value c.if-value-eq1.true in
     record {
-      after = c.put-signed-next.ensures.after ∙ ap (λ v. written c.args.out.now c.args.at (signed_decimal v)) f ∙ ap (written c.args.out.now c.args.at) (sym w);
-      next = c.put-signed-next.ensures.next ∙ ap (λ v. c.args.at + length (signed_decimal v)) f ∙ ap (λ l. c.args.at + length l) (sym w);
+      after = c.put_signed-next.ensures.after ∙ ap (λ v. written c.args.out.now c.args.at (signed_decimal v)) f ∙ ap (written c.args.out.now c.args.at) (sym w);
+      next = c.put_signed-next.ensures.next ∙ ap (λ v. c.args.at + length (signed_decimal v)) f ∙ ap (λ l. c.args.at + length l) (sym w);
     }
 
 pub returns : goal.returns
@@ -40,8 +40,8 @@ returns c =
     let w = broken c.args.value c.if-value-eq1.false in
     let n = ap length w in
     let m = length_ratio c.args.value in
-    let e = c.put-signed-next.ensures.next ∙ ap (λ v. c.args.at + length (signed_decimal v)) f in
-    let s = on (nothing c.args.out.now c.args.at (omega arith)) (signed_decimal c.args.value.top) _ _ (omega arith) (c.put-signed-next.ensures.after ∙ ap (λ v. written c.args.out.now c.args.at (signed_decimal v)) f) e in
-    let d = on s (47 ∷ []) _ _ (omega arith) c.put-byte-digits.ensures.after c.put-byte-digits.ensures.next in
-    let r = on d (decimal c.args.value.bottom) _ _ (omega arith) c.put-number.ensures.after c.put-number.ensures.next in
+    let e = c.put_signed-next.ensures.next ∙ ap (λ v. c.args.at + length (signed_decimal v)) f in
+    let s = on (nothing c.args.out.now c.args.at (omega arith)) (signed_decimal c.args.value.top) _ _ (omega arith) (c.put_signed-next.ensures.after ∙ ap (λ v. written c.args.out.now c.args.at (signed_decimal v)) f) e in
+    let d = on s (47 ∷ []) _ _ (omega arith) c.put_byte-digits.ensures.after c.put_byte-digits.ensures.next in
+    let r = on d (decimal c.args.value.bottom) _ _ (omega arith) c.put_number.ensures.after c.put_number.ensures.next in
     record { after = r.is ∙ ap (written c.args.out.now c.args.at) (sym w); next = r.place ∙ ap (λ l. c.args.at + length l) (sym w) }

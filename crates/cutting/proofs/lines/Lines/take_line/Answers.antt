@@ -10,8 +10,8 @@ pub returns : goal.returns
 returns c =
     let text = c.args.self.now.rest.now in
     let rest = c.if-end-rest.self.now in
-    let k = c.line-end-end.result in
-    let go = onward text rest k c.line-end-end.ensures.cut (omega arith) in
+    let k = c.line_end-end.result in
+    let go = onward text rest k c.line_end-end.ensures.cut (omega arith) in
     elim c.if-end-rest.branch [
       | then-end-rest w ↦ (go (after text rest k (ap (λ x. x.now) w.self-is)), refl)
       | else-end-rest w ↦ (go (last text rest k w.if-end-rest.false (ap (λ x. x.now) w.self-is)), refl)
