@@ -1,7 +1,7 @@
 -- Where a line ends.
 use Rattle.std.proofs.Common.{◌≡◌, ℕ, zero, suc, ◌+◌, ◌-◌, ◌<◌, ◌≤◌, cond, List, [], ◌∷◌, length, get_or, take, drop, sym, refl, ap, ◌∙◌, add-one, arith, length-drop, eq-eqb, ne_eqb}
 use Rattle.std.proofs.lemmas.List.{take_all, drop_all}
-use Rattle.cutting.specs.Lines.{before, lines}
+use Rattle.cutting.specs.Lines.{before, lines, labelled}
 
 -- at the first byte 10, or at the end of what is not empty
 cut_at : (bs : List ℕ) (k : ℕ) → 0 < length bs → k ≤ length bs → ((j : ℕ) → j < k → get_or bs j 0 ≡ 10 → ⊥) → (k < length bs → get_or bs k 0 ≡ 10) → lines bs ≡ take k bs ∷ lines (drop (suc k) bs)
@@ -14,6 +14,15 @@ cut_at (b ∷ c ∷ bs) (suc k) s h n e =
 
 pub cut : (bs : List ℕ) (k : ℕ) → k ≤ length bs → ((j : ℕ) → j < k → get_or bs j 0 ≡ 10 → ⊥) → (k < length bs → get_or bs k 0 ≡ 10) → 0 < length bs → lines bs ≡ take k bs ∷ lines (drop (k + 1) bs)
 cut bs k h n e s = rw add-one (cut_at bs k s h n e)
+
+-- the labels go on over a line
+pub over_empty : (k : ℕ) (l : List ℕ) (ls : List (List ℕ)) → length l ≡ 0 → labelled k (l ∷ ls) ≡ labelled (k + 1) ls
+over_empty k [] ls h = refl
+over_empty k (b ∷ l) ls h = absurd (omega arith)
+
+pub over_line : (k : ℕ) (l : List ℕ) (ls : List (List ℕ)) → 0 < length l → labelled k (l ∷ ls) ≡ (k, l) ∷ labelled (k + 1) ls
+over_line k [] ls h = absurd (omega arith)
+over_line k (b ∷ l) ls h = refl
 
 pub none : (bs : List ℕ) → length bs ≡ 0 → lines bs ≡ []
 none [] h = refl

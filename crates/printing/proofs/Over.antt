@@ -1,5 +1,5 @@
 -- One write after another.
-use Rattle.std.proofs.Common.{◌≡◌, ℕ, ◌+◌, ◌<◌, ◌≤◌, List, [], ◌∷◌, ◌++◌, length, take, drop, set, sym, refl, ap, ◌∙◌, append_assoc, add-zero, add-one, arith, length-append}
+use Rattle.std.proofs.Common.{◌≡◌, ℕ, ◌+◌, ◌<◌, ◌≤◌, List, [], ◌∷◌, ◌++◌, length, take, drop, set, sym, refl, ap, ◌∙◌, append_assoc, add-zero, add-one, arith, length-append, length-drop}
 use borrow.Rule.Slice.PartMut.{put_mid}
 use Rattle.std.proofs.lemmas.List.{take-append-drop, set_split, take_all, take_at, drop_at, drop-drop, length-take-le}
 use Rattle.std.proofs.lemmas.Slice.{put_mid-paste}
@@ -31,6 +31,9 @@ module _ (d : List ℕ) (at : ℕ) (xs : List ℕ) (n : ℕ) (e : n ≡ at + len
     where
       total : n + length ys ≡ at + length (xs ++ ys)
       total = omega (arith, length-append xs ys)
+
+  pub length_written : length (written d at xs) ≡ length d
+  length_written = rw (shape, length-append, front) (omega (arith, length-drop n d))
 
 -- d is d₀ with bs at its start, and at is the place after them
 pub record Begun (d₀ bs d : List ℕ) (at : ℕ) : Type 0 where
