@@ -13,7 +13,10 @@ pub returns-then-stands : goal.returns-then-stands
 returns-then-stands c = record { answer = sym (not_again c.args.q (waiting c.args.self.now) (sym c.if-stands.ensures)); after = refl }
 
 pub bounds-self-self : goal.bounds-self-self
-bounds-self-self c = place_left c.args.self.now c.args.q c.if-q-lt1.false c.if-q-gt-MOST_SET_POINTS.false (sym c.if-stands.ensures)
+bounds-self-self c =
+    let w = c.args.self.now in
+    let free : w.count < 48 = place_left w c.args.q c.if-q-lt1.false c.if-q-gt-MOST_SET_POINTS.false (sym c.if-stands.ensures) in
+    omega arith
 
 pub invariant_of-self : goal.invariant_of-self
 invariant_of-self c =
