@@ -1,6 +1,6 @@
 -- The labels of an input that is not too long.
 use Rattle.std.proofs.Common.{◌≡◌, ℕ, suc, ◌+◌, ◌≤◌, Bool, true, false, cond, eqb, List, [], ◌∷◌, ◌++◌, length, sym, refl, ap, ◌∙◌, subst, arith}
-use Rattle.std.specs.List.{AllByRecursion as All}
+use Rattle.std.specs.List.{AllByRecursion}
 use Rattle.cutting.specs.declared.lines.Lines.{Lines}
 use Rattle.cutting.specs.Lines.{lines, before, labelled}
 use Rattle.cutting.specs.Taken.{left, named}
@@ -20,7 +20,7 @@ few_lines : (text : List ℕ) → length (lines text) ≤ length text
 few_lines [] = omega arith
 few_lines (b ∷ bs) = few_cond (eqb b 10) b bs (few_lines bs)
 
-small : (k most : ℕ) (ls : List (List ℕ)) → k + length ls ≤ most + 1 → All (λ p. p.0 ≤ most) (labelled k ls)
+small : (k most : ℕ) (ls : List (List ℕ)) → k + length ls ≤ most + 1 → AllByRecursion (λ p. p.0 ≤ most) (labelled k ls)
 small k most [] h = tt
 small k most ([] ∷ ls) h = small (k + 1) most ls (omega arith)
 small k most ((b ∷ l) ∷ ls) h = (omega arith, small (k + 1) most ls (omega arith))

@@ -1,9 +1,9 @@
 -- The labels of an input's lines.
 use Rattle.std.specs.Prelude.{ℕ, ◌≤◌}
-use Rattle.std.specs.List.{AllByRecursion as All}
+use Rattle.std.specs.List.{AllByRecursion}
 use Rattle.cutting.specs.declared.lines.Lines.{Lines}
 use Rattle.cutting.specs.Taken.{named}
 
 -- no label is beyond the bytes of the longest input
 abbrev pub Counted : Lines → Type 0
-Counted l = All (λ p. p.0 ≤ 16384) (named l)
+Counted l = AllByRecursion (λ p. p.0 ≤ 16384) (named l)

@@ -32,10 +32,10 @@ fn labels(rt: HostRuntime) -> Result<(), Fail> {
     assert_eq!(rt; heading.n, 7);
     let first = lines.next_line().ok_or("no line")?;
     assert_eq!(rt; first.label, 2);
-    assert!(rt; first.bytes == b"q1=0");
+    assert!(rt; first.bytes == b"q1=0".as_slice());
     let second = lines.next_line().ok_or("no line")?;
     assert_eq!(rt; second.label, 5);
-    assert!(rt; second.bytes == b"q2=1");
+    assert!(rt; second.bytes == b"q2=1".as_slice());
     assert!(rt; lines.next_line().is_none());
     Ok(())
 }

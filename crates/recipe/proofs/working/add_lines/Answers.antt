@@ -1,5 +1,5 @@
 use Rattle.std.proofs.Common.{◌≤◌, length, vec_items, sym, subst, arith}
-use Rattle.std.specs.List.{AllByRecursion as All}
+use Rattle.std.specs.List.{AllByRecursion}
 use Rattle.cutting.specs.Taken.{named}
 use Rattle.sheet.specs.Contents.{contents}
 use Rattle.recipe.specs.Evidence.{Evident, answer_row}
@@ -33,7 +33,7 @@ loop-line-preserved g c =
     let S = contents c.loop-line.sheet in
     let S' = contents t.new.sheet in
     let done = line_done K S label text c.loop-line.records t.result S' t.new.records t.ensures in (
-      (subst (All (λ p. p.0 ≤ 16384)) e c.loop-line.invariant.0).1,
+      (subst (AllByRecursion (λ p. p.0 ≤ 16384)) e c.loop-line.invariant.0).1,
       reached_more K (length c.args.records.now) _ _ _ S S' _ _ _ _ row label text c.loop-line.invariant.1 e
           (subst (λ n. LineDone K n S label text row S') c.loop-line.auto.records done) c.in_ok-add_answer.ensures,
     )
