@@ -15,28 +15,27 @@ signs y z f g =
     unlike (lt_z (to_z w64 (of_z w64 y)) (pos 0)) (lt_z (to_z w64 (of_z w64 z)) (pos 0))
     ∙ ap₂ differ (ap (λ x. lt_z x (pos 0)) (to_z-of_z w64 y f) ∙ below_zero y) (ap (λ x. lt_z x (pos 0)) (to_z-of_z w64 z g) ∙ below_zero z)
 
-pub nonzero-div-m : goal.nonzero-div-m
-nonzero-div-m c =
-    common_positive (sizes c.ranges.top c.ranges.bottom c.if-bottom-eq0.false c.unsigned-abs-above.ensures.value c.unsigned-abs-below.ensures.value c.greatest-common-divisor-common.ensures)
+pub nonzero_div-m : goal.nonzero_div-m
+nonzero_div-m c =
+    common_positive (sizes c.ranges.top c.ranges.bottom c.if-bottom-eq0.false c.unsigned_abs-above.ensures.value c.unsigned_abs-below.ensures.value c.greatest_common_divisor-common.ensures)
 
-pub nonzero-div-d : goal.nonzero-div-d
-nonzero-div-d c =
-    common_positive (sizes c.ranges.top c.ranges.bottom c.if-bottom-eq0.false c.unsigned-abs-above.ensures.value c.unsigned-abs-below.ensures.value c.greatest-common-divisor-common.ensures)
+pub nonzero_div-d : goal.nonzero_div-d
+nonzero_div-d c =
+    common_positive (sizes c.ranges.top c.ranges.bottom c.if-bottom-eq0.false c.unsigned_abs-above.ensures.value c.unsigned_abs-below.ensures.value c.greatest_common_divisor-common.ensures)
 
 pub returns-then-m-gt-LARGEST : goal.returns-then-m-gt-LARGEST
 returns-then-m-gt-LARGEST c =
-    new_beyond (sizes c.ranges.top c.ranges.bottom c.if-bottom-eq0.false c.unsigned-abs-above.ensures.value c.unsigned-abs-below.ensures.value c.greatest-common-divisor-common.ensures)
+    new_beyond (sizes c.ranges.top c.ranges.bottom c.if-bottom-eq0.false c.unsigned_abs-above.ensures.value c.unsigned_abs-below.ensures.value c.greatest_common_divisor-common.ensures)
     c.then-m-gt-LARGEST.either
 
-pub invariant-of-result : goal.invariant-of-result
-invariant-of-result c = (
-  new_lowest (sizes c.ranges.top c.ranges.bottom c.if-bottom-eq0.false c.unsigned-abs-above.ensures.value c.unsigned-abs-below.ensures.value c.greatest-common-divisor-common.ensures)
-      _ _ (to_z-of_z w32 c.with_sign.result (record { sfits = c.with_sign.type-inv }) ∙ c.with_sign.ensures) c.if-m-gt-LARGEST.false c.if-d-gt-LARGEST.false,
-  tt,
-)
+pub invariant_of-result : goal.invariant_of-result
+invariant_of-result c = record {
+  held = new_lowest (sizes c.ranges.top c.ranges.bottom c.if-bottom-eq0.false c.unsigned_abs-above.ensures.value c.unsigned_abs-below.ensures.value c.greatest_common_divisor-common.ensures)
+      _ _ (to_z-of_z w32 c.with_sign.result (record { sfits = c.with_sign.type_inv }) ∙ c.with_sign.ensures) c.if-m-gt-LARGEST.false c.if-d-gt-LARGEST.false;
+}
 
 pub returns : goal.returns
 returns c =
-    let m = c.unsigned-abs-above.result / c.greatest-common-divisor-common.result in
-    new_held (sizes c.ranges.top c.ranges.bottom c.if-bottom-eq0.false c.unsigned-abs-above.ensures.value c.unsigned-abs-below.ensures.value c.greatest-common-divisor-common.ensures)
-    _ (to_z-of_z w32 c.with_sign.result (record { sfits = c.with_sign.type-inv }) ∙ c.with_sign.ensures ∙ ap (λ s. signed s m) (signs c.args.top c.args.bottom c.ranges.top c.ranges.bottom)) refl
+    let m = c.unsigned_abs-above.result / c.greatest_common_divisor-common.result in
+    new_held (sizes c.ranges.top c.ranges.bottom c.if-bottom-eq0.false c.unsigned_abs-above.ensures.value c.unsigned_abs-below.ensures.value c.greatest_common_divisor-common.ensures)
+    _ (to_z-of_z w32 c.with_sign.result (record { sfits = c.with_sign.type_inv }) ∙ c.with_sign.ensures ∙ ap (λ s. signed s m) (signs c.args.top c.args.bottom c.ranges.top c.ranges.bottom)) refl

@@ -9,4 +9,4 @@ pub returns : goal.returns
 unfolding index
 returns c =
     same_teeth _ (index c.args.z)
-    (ap nat_abs (to_z-of_z w32 c.rem-euclid.result (record { sfits = c.rem-euclid.type-inv }) ∙ c.rem-euclid.ensures.value ∙ ap (λ z. int_rem_euclid z (pos 127)) (to_z-of_z w32 c.args.z c.ranges.z) ∙ rem_euclid_rest 127 c.args.z))
+    (ap nat_abs (to_z-of_z w32 c.rem_euclid.result (record { sfits = c.rem_euclid.type_inv }) ∙ c.rem_euclid.ensures.value ∙ ap (λ z. int_rem_euclid z (pos 127)) (to_z-of_z w32 c.args.z c.ranges.z) ∙ rem_euclid_rest 127 c.args.z))

@@ -53,5 +53,5 @@ returns c =
     let first = kept tt (times_is (num_is a) below c.times-first.ensures) in
     let second = kept tt (times_is (den_is a) (kept tt (times_is (num_is b) (num_is d) c.times.ensures)) c.times-second.ensures) in
     let bottom = kept tt (times_is (den_is a) below c.times-2.ensures) in
-    let top = to_z-of_z w64 c.minus.result (record { sfits = c.minus.type-inv }) ∙ c.minus.ensures ∙ ap₂ ◌-ℤ◌ first.is second.is ∙ lowered a.num (pos b.den *ℤ pos d.den) (pos a.den) (b.num *ℤ d.num) in
+    let top = to_z-of_z w64 c.minus.result (record { sfits = c.minus.type_inv }) ∙ c.minus.ensures ∙ ap₂ ◌-ℤ◌ first.is second.is ∙ lowered a.num (pos b.den *ℤ pos d.den) (pos a.den) (b.num *ℤ d.num) in
     c.new.ensures ∙ ap₂ new_of top bottom.is ∙ sym (new_nonzero _ _ (bottom_not_zero a b d))

@@ -23,5 +23,5 @@ unfolding over_of
 returns c =
     let K = index_kind in
     let v = held (K.value_of (ratio (K.tells c.args.self) (K.tells c.args.b))) in
-    ap Ok (c.turned-to.ensures ∙ ap index (product_is c.from.ensures (c.from-2.ensures ∙ ap pos c.reciprocal-of.ensures) (omega (arith, c.args.self.below)) (reciprocal_small c.args.b.teeth))) ∙ sym (ap held (over_made indices c.args.self c.args.b c.if-b-eq0.false))
+    ap Ok (c.turned_to.ensures ∙ ap index (product_is c.from.ensures (c.from-2.ensures ∙ ap pos c.reciprocal_of.ensures) (omega (arith, c.args.self.below)) (reciprocal_small c.args.b.teeth))) ∙ sym (ap held (over_made indices c.args.self c.args.b c.if-b-eq0.false))
     ∙ sym (ap (λ t. cond t (Err ByZero) v) (nonzero_test c.args.b.teeth c.if-b-eq0.false))
