@@ -1,9 +1,9 @@
 -- The labels of an input that is not too long.
-use Rattle.std.proofs.Common.{◌≡◌, ℕ, suc, ◌+◌, ◌≤◌, Bool, true, false, cond, eqb, List, [], ◌∷◌, ◌++◌, length, sym, refl, ap, ◌∙◌, subst, arith}
+use Rattle.std.proofs.Common.{◌≡◌, ℕ, suc, ◌+◌, ◌≤◌, Bool, true, false, cond, eqb, List, [], ◌∷◌, length, ap, arith}
 use Rattle.std.specs.List.{AllByRecursion}
 use Rattle.cutting.specs.declared.lines.Lines.{Lines}
 use Rattle.cutting.specs.Lines.{lines, before, labelled}
-use Rattle.cutting.specs.Taken.{left, named}
+use Rattle.cutting.specs.Taken.{left}
 use Rattle.placing.specs.Input.{FirstTaken, other_lines, after}
 use Rattle.recipe.specs.Labels.{Counted}
 

@@ -1,16 +1,15 @@
 -- An input that is not opened is told in one row.
-use Rattle.std.proofs.Common.{◌≡◌, ℕ, ◌+◌, ◌⊎◌, List, [], ◌∷◌, ◌++◌, Ok, codes, decimal, sym, refl, ap, ◌∙◌, subst, inl, inr, lit<, lit≤}
+use Rattle.std.proofs.Common.{◌≡◌, ℕ, ◌+◌, List, [], ◌∷◌, ◌++◌, Ok, codes, decimal, sym, refl, ap, ◌∙◌, subst, inl, inr, lit<, lit≤}
 use Rattle.std.proofs.lemmas.Fmt.{decimal_digit, decimal_step}
-use Rattle.elimination.specs.declared.fault.SheetFault.TheVariants as sheet
 use Rattle.cutting.specs.declared.lines.Lines.{Lines}
 use Rattle.cutting.specs.declared.heading.Heading as head
-use Rattle.cutting.specs.Lines.{lines, labelled}
+use Rattle.cutting.specs.Lines.{labelled}
 use Rattle.cutting.specs.Taken.{named, left}
 use Rattle.printing.specs.Rows.{refused_row}
 use Rattle.placing.specs.declared.fault.TextFault.{TextFault}
 use Rattle.placing.specs.declared.fault.TextFault.TheVariants.{Room, Form, Heading, OutsideSetPoint, TwiceSetPoint, TooLong, Sheet}
 use Rattle.placing.specs.Faults.{text_report}
-use Rattle.placing.specs.Input.{Unopened, Opened, FirstTaken, other_lines, first_line, after}
+use Rattle.placing.specs.Input.{Unopened, Opened, other_lines, after}
 use Rattle.recipe.specs.Transcribed.{Worked, Transcribed}
 
 nought : decimal 0 ≡ 48 ∷ []

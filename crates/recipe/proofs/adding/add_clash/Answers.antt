@@ -1,4 +1,4 @@
-use Rattle.std.proofs.Common.{◌≡◌, ◌-◌, length, take, replicate, arith}
+use Rattle.std.proofs.Common.{◌≡◌, ◌-◌, length, take, replicate}
 use native.Mathlib.Nat.{sub-zero}
 use Rattle.printing.specs.Rows.{clash_row, fits}
 use Rattle.recipe.specs.Added.{entries_of}
