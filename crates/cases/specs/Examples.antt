@@ -1,7 +1,7 @@
 -- The worked examples.
-use Rattle.std.specs.Prelude.{◌≡◌, ℕ, List, [], ◌∷◌, map, ℤ, pos, negsuc}
+use Rattle.std.specs.Prelude.{◌≡◌, List, [], ◌∷◌, map, ℤ, pos, negsuc}
 use Rattle.exact.specs.declared.fault.NumberFault.TheVariants.{Beyond}
-use Rattle.exact.specs.Fraction.{Fraction, fraction, whole}
+use Rattle.exact.specs.Fraction.{fraction, whole}
 use Rattle.elimination.specs.declared.fault.Step.TheVariants.{Divide}
 use Rattle.elimination.specs.declared.fault.SheetFault.TheVariants.{Numbers}
 use Rattle.fractions.specs.Laws.{ratio_kind}

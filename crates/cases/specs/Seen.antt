@@ -1,5 +1,5 @@
 -- A sheet seen from outside: values by the fractions that they tell.
-use Rattle.std.specs.Prelude.{ℕ, ◌+◌, ◌-◌, List, [], ◌∷◌, ◌++◌, map, length, ℤ, pos, Ok, Err, Result, slice_index_or}
+use Rattle.std.specs.Prelude.{ℕ, ◌+◌, ◌-◌, List, [], ◌∷◌, map, length, ℤ, pos, Ok, Err, Result, slice_index_or}
 use Rattle.exact.specs.Fraction.{Fraction, whole, plus, times}
 use Rattle.exact.specs.Kind.{Kind}
 use Rattle.elimination.specs.declared.fault.SheetFault.{SheetFault}
