@@ -33,7 +33,7 @@ pub data Point : Type 0 where
   Outside : Point
 
 abbrev pub empty : {V : Type 0} → (n : ℕ) → Contents V
-empty n = record { n = n; number = 0; held = []; marks = []; waits = [] }
+empty n = record { n = n; number = 0; held = [] }
 
 module _ {V : Type 0} (K : Kind V) where
   abbrev told : Record V → Blame

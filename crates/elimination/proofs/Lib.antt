@@ -1,20 +1,20 @@
 pub mod Places
 pub mod Tests
-pub mod Walks
+mod Refused
+mod Walks
 pub mod Frames
 mod Back
+mod Telling
+mod Writing
+mod Opening
 mod Solving
-mod Subjects
-pub mod Always
+pub mod Verdicts
+mod Always
 pub mod Shown
 pub mod Judging
+mod Outcomes
+mod Remaining
+mod Multipliers
 mod Copies
-mod Opening
-mod Refused
-mod Restated
-mod Sure
-mod Telling
-mod Tried
-mod Verdicts
 mod Worked
-mod Written
+mod Restated

@@ -1,49 +1,46 @@
--- The working row at its start: the numbers of the line, then the multipliers.
-use Rattle.std.proofs.Common.{◌≡◌, ℕ, ◌+◌, ◌-◌, ◌≤◌, List, ◌++◌, length, take, drop, sym, refl, ap, ◌∙◌, append_assoc, arith, length-append, length-drop, length-take-le}
-use borrow.Rule.Slice.PartMut.{put_mid, post_of}
-use Rattle.std.proofs.lemmas.List.Edits.{length-paste}
-use Rattle.std.proofs.lemmas.List.{take_at, drop_at}
-use Rattle.std.proofs.lemmas.Slice.{put_mid-paste, drop-put_mid}
-use Rattle.elimination.specs.Held.{wide, row_place, row_at, OnlyRow}
-use Rattle.elimination.proofs.Places.{rest_past}
+-- The working row at its start, and its subject.
+use Rattle.std.proofs.Common.{◌≡◌, ℕ, zero, suc, ◌+◌, ◌<◌, ◌≤◌, Bool, true, false, cond, List, ◌++◌, length, take, drop, set, replicate, Some, None, sym, refl, ap, ◌∙◌, arith, get_or-take}
+use Rattle.std.proofs.lemmas.List.{drop-replicate, set-append_right, set_past}
+use Rattle.exact.specs.Kind.{Kind}
+use Rattle.rows.specs.Row.{at, highest}
+use Rattle.elimination.specs.Held.{wide}
+use Rattle.elimination.specs.Stating.{Found}
+use Rattle.elimination.specs.Steps.{opening, one, subject}
+use Rattle.elimination.proofs.Tests.{less, not_less}
+use lib.ListN.{length-replicate}
 
-pub put_length : {V : Type 0} (a k : ℕ) (m v : List V) → a + k ≤ length m → length v ≡ k → length (put_mid a k m v) ≡ length m
-put_length a k m v fits long = ap length (put_mid-paste a k m v v k refl refl (sym long)) ∙ length-paste m a v k fits (omega arith)
+module _ {V : Type 0} (K : Kind V) (n h : ℕ) (line w : List V) (long : length line ≡ n + 1) (is : w ≡ replicate (wide n) K.nil) where
+  multipliers : drop (n + 1) w ≡ replicate n K.nil
+  multipliers = ap (drop (n + 1)) is ∙ drop-replicate (n + 1) (wide n) K.nil ∙ ap (λ i. replicate i K.nil) (omega arith)
 
--- a part of so many numbers
-pub part_length : {V : Type 0} (a k : ℕ) (m : List V) → a + k ≤ length m → length (take (a + k - a) (drop a m)) ≡ k
-part_length a k m h = length-take-le (a + k - a) (drop a m) (let d = length-drop a m in omega arith) ∙ omega arith
+  pub opening_held : h < n → set (line ++ drop (n + 1) w) (n + 1 + h) (one K) ≡ opening K n h line
+  opening_held b =
+      ap (λ l. set (line ++ l) (n + 1 + h) (one K)) multipliers
+      ∙ set-append_right line (replicate n K.nil) (n + 1) (n + 1 + h) (one K) long (omega arith)
+      ∙ ap (λ i. line ++ set (replicate n K.nil) i (one K)) (omega arith)
 
-module _ {V : Type 0} (n h : ℕ) (m m₁ line w : List V) (fits : row_place n h + wide n ≤ length m) (same : length m₁ ≡ length m) (long : length line ≡ n + 1) (width : length w ≡ n)
-    (front : take (row_place n h + (n + 1)) m₁ ≡ take (row_place n h) m ++ line) (back : drop (row_place n h + (n + 1)) m₁ ≡ drop (row_place n h + (n + 1)) m) where
-  r : ℕ
-  r = row_place n h
+  pub opening_full : n ≤ h → line ++ drop (n + 1) w ≡ opening K n h line
+  opening_full b =
+      ap (λ l. line ++ l) (multipliers ∙ sym (set_past (replicate n K.nil) h (one K) (let e = length-replicate n K.nil in omega arith)))
 
-  new : List V
-  new = put_mid (r + (n + 1)) n m₁ w
+module _ {V : Type 0} (K : Kind V) where
+  -- columns past the m that are looked at do not count
+  pub highest_take : (m k : ℕ) (w : List V) → m ≤ k → highest K m (take k w) ≡ highest K m w
+  highest_take zero k w b = refl
+  highest_take (suc m) k w b =
+      ap (λ x. cond (K.is_zero x) (highest K m (take k w)) (Some m)) (get_or-take k w m K.nil (omega arith))
+      ∙ ap (λ o. cond (K.is_zero (at K w m)) o (Some m)) (highest_take m k w (omega arith))
 
-  rest : List V
-  rest = post_of (r + (n + 1)) n m₁
+  highest_found : (m n h : ℕ) (w : List V) → m ≤ n → h < n → Found n h (highest K m w)
+  highest_found zero n h w b c = tt
+  highest_found (suc m) n h w b c = go (K.is_zero (at K w m)) (highest_found m n h w (omega arith) c)
+    where
+      go : (t : Bool) → Found n h (highest K m w) → Found n h (cond t (highest K m w) (Some m))
+      go true f = f
+      go false f = (omega arith, c)
 
-  before : length (take r m) ≡ r
-  unfolding r
-  before = length-take-le r m (omega arith)
+  pub subject_is : (n h : ℕ) (w : List V) → h < n → (highest K n w ≡ subject K n h w) × Found n h (highest K n w)
+  subject_is n h w b = (sym (ap (λ t. cond t (highest K n w) None) (less h n b)), highest_found n n h w (omega arith) b)
 
-  parts : new ≡ take r m ++ ((line ++ w) ++ rest)
-  unfolding r new rest
-  parts = ap (λ l. l ++ (w ++ rest)) front ∙ append_assoc (take r m) line (w ++ rest) ∙ ap (λ l. take r m ++ l) (sym (append_assoc line w rest))
-
-  pub opened_row : row_at n (put_mid (row_place n h + (n + 1)) n m₁ w) h ≡ line ++ w
-  unfolding r new
-  opened_row =
-      ap (λ l. take (wide n) (drop r l)) parts
-      ∙ ap (take (wide n)) (drop_at (take r m) ((line ++ w) ++ rest) r before)
-      ∙ take_at (line ++ w) rest (wide n) (let e = length-append line w in omega arith)
-
-  pub opened_only : OnlyRow n h m (put_mid (row_place n h + (n + 1)) n m₁ w)
-  unfolding r new
-  opened_only =
-      record {
-        before = ap (take r) parts ∙ take_at (take r m) ((line ++ w) ++ rest) r before;
-        after = drop-put_mid (r + (n + 1)) n m₁ w (r + wide n) (omega arith) (omega arith) width ∙ rest_past (r + (n + 1)) (r + wide n) (omega arith) m₁ m back;
-      }
+  pub no_subject : (n h : ℕ) (w : List V) → n ≤ h → None ≡ subject K n h w
+  no_subject n h w b = sym (ap (λ t. cond t (highest K n w) None) (not_less h n b))

@@ -32,13 +32,6 @@ size n =
 pub line_fits : (n j : ℕ) → j < n → line_place n j + (n + 1) ≤ needed n
 line_fits n j h = let a = next j n (n + 1) h in let s = size n in omega (arith, a, s)
 
--- the lines end where the needed numbers end
-pub lines_end : (n : ℕ) → line_place n n ≡ needed n
-lines_end n = sym (size n)
-
-pub lines_fit : (n : ℕ) → lines_place n ≤ needed n
-lines_fit n = let s = size n in omega (arith, s)
-
 pub row_fits : (n h : ℕ) → h ≤ n → row_place n h + wide n ≤ needed n
 row_fits n h l = let a = next h (n + 1) (wide n) (omega arith) in let s = size n in omega (arith, a, s)
 
@@ -61,3 +54,10 @@ pub rest_past : {V : Type 0} (a b : ℕ) → a ≤ b → (m m' : List V) → dro
 rest_past a b h m m' e =
     let d : a + (b - a) ≡ b = omega arith in
     ap (λ i. drop i m) (sym d) ∙ sym (drop-drop (b - a) a m) ∙ ap (drop (b - a)) e ∙ drop-drop (b - a) a m' ∙ ap (λ i. drop i m') d
+
+-- the lines end where the needed numbers end
+pub lines_end : (n : ℕ) → line_place n n ≡ needed n
+lines_end n = sym (size n)
+
+pub lines_fit : (n : ℕ) → lines_place n ≤ needed n
+lines_fit n = let s = size n in omega (arith, s)

@@ -7,10 +7,11 @@ use Rattle.ledger.specs.Entries.{blank}
 use Rattle.ledger.specs.Listed.{Listed, holding}
 use Rattle.elimination.specs.Held.{needed, used, fits, size_in, entries_in, line_place, line_at, held_line, held_lines, held_in}
 use Rattle.elimination.proofs.Places.{line_next, lines_end, rest_past}
-use Rattle.elimination.proofs.Shown.{used_all, nothing_held}
+use Rattle.elimination.proofs.Verdicts.{used_all}
+use Rattle.elimination.proofs.Remaining.{nothing_held}
 use Rattle.elimination.proofs.Walks.{lines_first, lines_end as lines-all}
 use Rattle.elimination.specs.Again.{restated}
-use Rattle.elimination.specs.Parts.{taken_for}
+use Rattle.elimination.specs.Again.{taken_for}
 use Rattle.elimination.specs.Stating.{held_after, entered}
 use Rattle.elimination.specs.Steps.{Verdict, refused, follows, clash, taken, steps}
 

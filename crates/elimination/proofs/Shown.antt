@@ -1,12 +1,17 @@
 -- What a ledger shows over a memory.
-use Rattle.std.proofs.Common.{◌≡◌, ℕ, zero, suc, ◌<◌, ◌≤◌, Bool, true, false, cond, ltb, List, [], length, Some, None, Ok, Err, Option, Result, sym, refl, ap, ◌∙◌, ap₂, arith, length-take-le}
+use Rattle.std.proofs.Common.{◌≡◌, ℕ, zero, suc, ◌<◌, ◌≤◌, Bool, true, false, cond, ltb, leb, List, [], ◌∷◌, ◌++◌, map, length, ℤ, Ok, Err, Result, sym, refl, ap, ◌∙◌, ap₂, arith, length-take-le}
+use Rattle.exact.specs.Kind.{Kind}
+use Rattle.exact.specs.Answers.{value_of}
 use Rattle.ledger.specs.declared.entry.Entry.{Entry}
 use Rattle.ledger.specs.declared.ledger.Ledger.{Ledger}
-use Rattle.ledger.specs.Listed.{Listed, listed, may_hold}
-use Rattle.elimination.specs.declared.fault.StepFault.{StepFault}
-use Rattle.elimination.specs.Held.{needed, used, fits, size_in, entries_in, row_at, held_lines, held_in, row_in}
-use Rattle.elimination.specs.Outcome.{Outcome, stuck, spent, solved}
-use Rattle.elimination.specs.Working.{Answers, HasPlace, Left, Remains}
+use Rattle.ledger.specs.Listed.{Listed, listed, holding, may_hold}
+use Rattle.elimination.specs.declared.course.Course.{Course}
+use Rattle.elimination.specs.declared.course.Course.TheVariants.{Follows, Taken}
+use Rattle.elimination.specs.declared.fault.SheetFault.{SheetFault}
+use Rattle.elimination.specs.Held.{needed, used, fits, size_in, entries_in, held_lines, held_in}
+use Rattle.elimination.specs.Refusals.{refusal}
+use Rattle.elimination.specs.Stating.{unless, stating, course, Proper, Holdable, entered, entries_after}
+use Rattle.elimination.specs.Steps.{Verdict, refused, follows, clash, taken, steps}
 use Rattle.elimination.proofs.Frames.{held_length}
 use Rattle.elimination.proofs.Tests.{at_most, above, less}
 
@@ -26,46 +31,51 @@ module _ (l : Listed) (have : ℕ) where
   pub hidden : have < needed l.n → (size_in l have ≡ 0) × (entries_in l have ≡ [])
   hidden h = let t = above (needed l.n) have h in (ap (λ b. cond b l.n 0) t, ap (λ b. cond b l.entries []) t)
 
--- a line with a subject has its place in the ledger
+-- a line that is taken over what a ledger shows has its place in the ledger
 module _ (l : Listed) (have : ℕ) where
-  in_fit : (b : Bool) (q : ℕ) → q < cond b l.n 0 → length (cond b l.entries []) < cond b l.n 0 → may_hold q l ≡ true
+  pub in_fit : (b : Bool) (q : ℕ) → q < cond b l.n 0 → length (cond b l.entries []) < cond b l.n 0 → may_hold q l ≡ true
   in_fit true q s h = ap (λ t. cond t (ltb q l.n) false) (less (length l.entries) l.n h) ∙ less q l.n s
   in_fit false q s h = absurd (omega arith)
 
-  pub holdable : (r : Result (Option ℕ) StepFault) → Answers (size_in l have) (length (entries_in l have)) r → HasPlace l r
+  pub holdable : (r : Result Course SheetFault) → Proper (size_in l have) (length (entries_in l have)) r → Holdable l r
   holdable (Err f) p = tt
-  holdable (Ok None) p = tt
-  holdable (Ok (Some q)) p = in_fit (fits l have) q p.0 p.1
+  holdable (Ok Follows) p = tt
+  holdable (Ok (Taken q)) p = in_fit (fits l have) q p.0 p.1
 
-pub used_all : (n : ℕ) → 0 < n → used n ≡ needed n
-used_all zero b = absurd (omega arith)
-used_all (suc n) b = refl
-
--- the held lines and the working row, by the size and the entries that were found over a memory of this length
-module _ {V : Type 0} (l : Listed) (have n : ℕ) (es : List Entry) (size : n ≡ size_in l have) (entries : es ≡ entries_in l have) where
-  pub held_is : (m : List V) → length m ≡ have → held_lines n m 0 es ≡ held_in l m
+-- the held lines after a verdict, as the ledger then shows them
+module _ {V : Type 0} (l : Listed) (m m' : List V) (same : length m' ≡ length m) (label : ℕ) where
+  still : held_lines (size_in l (length m)) m' 0 (entries_in l (length m)) ≡ held_in l m'
   unfolding held_in
-  held_is m e = ap₂ (λ k xs. held_lines k m 0 xs) size entries ∙ ap (λ i. held_lines (size_in l i) m 0 (entries_in l i)) (sym e)
+  still = ap (λ k. held_lines (size_in l k) m' 0 (entries_in l k)) (sym same)
 
-  pub row_shown : (m : List V) → length m ≡ have → row_at n m (length es) ≡ row_in l m
-  unfolding row_in
-  row_shown m e = ap₂ (λ k xs. row_at k m (length xs)) size entries ∙ ap (λ i. row_at (size_in l i) m (length (entries_in l i))) (sym e)
+  with_fit : (b : Bool) → fits l (length m) ≡ b → (q : ℕ) → 0 < cond b l.n 0 → held_lines (cond b l.n 0) m' 0 (cond b l.entries [] ++ record { label = label; subject = q } ∷ []) ≡ held_in (holding label q l) m'
+  unfolding held_in
+  with_fit true e q p =
+      sym (ap (λ b. held_lines (cond b l.n 0) m' 0 (cond b (l.entries ++ record { label = label; subject = q } ∷ []) [])) (ap (leb (needed l.n)) same ∙ e))
+  with_fit false e q p = absurd (omega arith)
 
-  pub left_shows : (o : Outcome V) (m m' : List V) → length m ≡ have → length m' ≡ have → Left o n es m m' → Remains o l m m'
-  left_shows (stuck f) m m' e d h = sym (held_is m' d) ∙ h ∙ held_is m e
-  left_shows (spent w) m m' e d h = (sym (held_is m' d) ∙ h.0 ∙ held_is m e, sym (row_shown m' d) ∙ h.1)
-  left_shows (solved q w hs) m m' e d h = (sym (held_is m' d) ∙ h.0, sym (row_shown m' d) ∙ h.1)
+  pub entered_shows : (v : Verdict V) → Proper (size_in l (length m)) (length (entries_in l (length m))) (course v) → held_in (entered v label l) m' ≡ held_lines (size_in l (length m)) m' 0 (entries_after v label (entries_in l (length m)))
+  entered_shows (refused f) p = sym still
+  entered_shows follows p = sym still
+  entered_shows (clash rs) p = sym still
+  entered_shows (taken q hs) p = sym (with_fit (fits l (length m)) refl q (let b = p.0 in omega arith))
 
--- as many held lines as entries
-pub held_count : {V : Type 0} (l : Listed) (m : List V) → length (held_in l m) ≡ length (entries_in l (length m))
-unfolding held_in
-held_count l m = held_length (size_in l (length m)) m 0 (entries_in l (length m))
+-- ---- the verdict, by the size and the entries that were found
+module _ {V : Type 0} (K : Kind V) (l : Listed) (m : List V) (line : List ℤ) (label room n : ℕ) (es : List Entry) (size : n ≡ size_in l (length m)) (entries : es ≡ entries_in l (length m)) where
+  pub held_is : held_lines n m 0 es ≡ held_in l m
+  unfolding held_in
+  held_is = ap₂ (λ k xs. held_lines k m 0 xs) size entries
 
--- a ledger without entries shows no line
-pub nothing_held : {V : Type 0} (l : Listed) (m : List V) → l.entries ≡ [] → held_in l m ≡ []
-unfolding held_in
-nothing_held l m e = ap (held_lines (size_in l (length m)) m 0) (ap (λ es. cond (fits l (length m)) es []) e ∙ go (fits l (length m)))
-  where
-    go : (b : Bool) → cond {A = List Entry} b [] [] ≡ []
-    go true = refl
-    go false = refl
+  refusal_is : refusal (size_in l (length m)) (length (held_in l m)) line label room ≡ refusal n (length es) line label room
+  refusal_is = ap₂ (λ k h. refusal k h line label room) (sym size) (ap length (sym held_is) ∙ held_length n m 0 es)
+
+  abbrev pub verdict : Verdict V
+  verdict = stating K (size_in l (length m)) (held_in l m) line label room
+
+  pub verdict_refused : (f : SheetFault) → refusal n (length es) line label room ≡ Err f → verdict ≡ refused f
+  verdict_refused f e = ap (λ r. unless r (steps K (size_in l (length m)) (held_in l m) label (map (value_of K) line))) (refusal_is ∙ e)
+
+  pub verdict_steps : refusal n (length es) line label room ≡ Ok tt → verdict ≡ steps K n (held_lines n m 0 es) label (map (value_of K) line)
+  verdict_steps e =
+      ap (λ r. unless r (steps K (size_in l (length m)) (held_in l m) label (map (value_of K) line))) (refusal_is ∙ e)
+      ∙ ap₂ (λ k hs. steps K k hs label (map (value_of K) line)) (sym size) (sym held_is)

@@ -1,5 +1,5 @@
 -- The records of a clash, as they are written one after the other.
-use Rattle.std.proofs.Common.{◌≡◌, ℕ, ◌+◌, ◌<◌, ◌≤◌, Bool, true, false, cond, List, [], ◌∷◌, ◌++◌, length, get_or, take, drop, set, sym, ap, ◌∙◌, append_assoc, append-nil, arith, length-append, take-append-drop, length-take-le, drop-drop, drop-set-lt}
+use Rattle.std.proofs.Common.{◌≡◌, ℕ, ◌+◌, ◌<◌, ◌≤◌, Bool, true, false, cond, List, [], ◌∷◌, ◌++◌, length, get_or, take, drop, set, sym, refl, ap, ◌∙◌, append_assoc, append-nil, arith, length-append, take-append-drop, length-take-le, drop-drop, drop-set-lt}
 use Rattle.std.proofs.lemmas.List.{take_more_set}
 use Rattle.exact.specs.Kind.{Kind}
 use Rattle.ledger.specs.declared.entry.Entry.{Entry}
@@ -18,6 +18,9 @@ module _ {V : Type 0} (K : Kind V) (n : ℕ) (w : List V) (es : List Entry) wher
     pub so_far : (m : List V) → take count rs ++ named K n j (held_lines n m j (drop j es)) w ≡ named K n 0 (held_lines n m 0 es) w
     pub rest : drop count rs ≡ drop count old
     pub few : count ≤ j
+
+  pub told_start : (old : List (Record V)) → Told old 0 0 old
+  told_start old = record { so_far = λ m. refl; rest = refl; few = omega arith }
 
   abbrev pub record_at : ℕ → V → Record V
   record_at j v = record { place = j + 1; label = (get_or es j blank).label; multiplier = v }

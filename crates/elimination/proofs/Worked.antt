@@ -8,12 +8,13 @@ use Rattle.elimination.specs.Outcome.{solved, work}
 use Rattle.elimination.specs.Working.{working, Remains}
 use Rattle.elimination.proofs.Frames.{held_more, only_held, only_lines}
 use Rattle.elimination.proofs.Places.{lines_fit, rest_past}
-use Rattle.elimination.proofs.Shown.{held_is, held_count, row_shown, used_all}
-use Rattle.elimination.specs.Parts.{OtherLines}
+use Rattle.elimination.proofs.Remaining.{held_is, held_count, row_shown}
+use Rattle.elimination.proofs.Verdicts.{used_all}
+use Rattle.elimination.specs.Held.{OtherLines}
 use Rattle.elimination.specs.Steps.{opening, steps}
 use Rattle.elimination.specs.Outcome.{verdict_of}
 use Rattle.elimination.proofs.Judging.{steps_by_work}
-use Rattle.elimination.proofs.Written.{row_kept, others_held}
+use Rattle.elimination.proofs.Writing.{row_kept, others_held}
 
 -- a line that is entered in a ledger with set points, as the ledger then shows it
 entered_shows : {V : Type 0} (l : Listed) (m : List V) (label q : ℕ) → 0 < size_in l (length m) → held_in (holding label q l) m ≡ held_lines (size_in l (length m)) m 0 (entries_in l (length m) ++ record { label = label; subject = q } ∷ [])

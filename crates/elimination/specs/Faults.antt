@@ -1,11 +1,12 @@
 -- What a fault of the sheet tells.
 use Rattle.std.specs.Prelude.{ℕ}
 use Rattle.exact.specs.Faults.{number_report}
+use Rattle.exact.specs.declared.report.Layer.{Layer}
 use Rattle.exact.specs.declared.report.Layer.TheVariants as layer
 use Rattle.exact.specs.declared.report.Report.{Report}
 use Rattle.elimination.specs.declared.fault.StepFault.{StepFault}
 use Rattle.elimination.specs.declared.fault.SheetFault.{SheetFault}
-use Rattle.elimination.specs.declared.fault.SheetFault.TheVariants.{Size, SetPoint, Length, Room, Label, Depth, OtherTrial, Waiting, NotWaiting, Limit, Clash, Numbers}
+use Rattle.elimination.specs.declared.fault.SheetFault.TheVariants.{Size, SetPoint, Length, Room, Label, Limit, Clash, Numbers}
 
 abbrev on_sheet : ℕ → ℕ → Report
 on_sheet number place = record { number = number; layer = layer.Sheet; place = place }
@@ -17,10 +18,6 @@ sheet_report SetPoint = on_sheet 2 0
 sheet_report Length = on_sheet 3 0
 sheet_report Room = on_sheet 4 0
 sheet_report Label = on_sheet 5 0
-sheet_report Depth = on_sheet 6 0
-sheet_report OtherTrial = on_sheet 7 0
-sheet_report Waiting = on_sheet 8 0
-sheet_report NotWaiting = on_sheet 9 0
 sheet_report (Limit position) = on_sheet 20 position
 sheet_report (Clash count) = on_sheet 21 0
 sheet_report (Numbers f) = let r = number_report f.row.fault in record { number = r.number; layer = r.layer; place = f.row.column }

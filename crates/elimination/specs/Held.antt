@@ -51,6 +51,10 @@ pub record OnlyRow {V : Type 0} (n j : ℕ) (m m' : List V) : Type 0 where
   pub before : take (row_place n j) m' ≡ take (row_place n j) m
   pub after : drop (row_place n j + wide n) m' ≡ drop (row_place n j + wide n) m
 
+-- the rows of the places up to j, and the lines of those before it, are as they were
+abbrev pub OtherLines : {V : Type 0} → (n j : ℕ) → List V → List V → Type 0
+OtherLines n j m m' = take (line_place n j) m' ≡ take (line_place n j) m
+
 -- a ledger over a memory: without the memory that its n needs it counts as one with no set point
 abbrev pub fits : Listed → ℕ → Bool
 fits l have = nat_le (needed l.n) have

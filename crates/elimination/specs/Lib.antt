@@ -1,9 +1,8 @@
-pub mod Again
 pub mod Faults
 pub mod Held
-pub mod Outcome
-pub mod Parts
 pub mod Refusals
-pub mod Stating
 pub mod Steps
+pub mod Stating
+pub mod Outcome
 pub mod Working
+pub mod Again

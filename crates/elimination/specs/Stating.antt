@@ -1,14 +1,16 @@
 -- Stating a line: the verdict, the answer, and what then stands.
-use Rattle.std.specs.Prelude.{◌≡◌, ℕ, true, List, ◌++◌, map, length, drop, ℤ, Ok, Err, Result}
+use Rattle.std.specs.Prelude.{◌≡◌, ℕ, ◌<◌, true, List, [], ◌∷◌, ◌++◌, map, length, drop, ℤ, Some, None, Ok, Err, Option, Result}
 use Rattle.exact.specs.Kind.{Kind}
 use Rattle.exact.specs.Answers.{value_of}
+use Rattle.ledger.specs.declared.entry.Entry.{Entry}
 use Rattle.ledger.specs.Listed.{Listed, holding, may_hold}
-use Rattle.elimination.specs.Held.{HeldLine}
 use Rattle.elimination.specs.declared.course.Course.{Course}
 use Rattle.elimination.specs.declared.course.Course.TheVariants.{Follows, Taken}
+use Rattle.elimination.specs.declared.fault.StepFault.{StepFault}
 use Rattle.elimination.specs.declared.fault.SheetFault.{SheetFault}
 use Rattle.elimination.specs.declared.fault.SheetFault.TheVariants.{Clash}
 use Rattle.elimination.specs.declared.record.Record.{Record}
+use Rattle.elimination.specs.Held.{HeldLine, row_at, line_at, held_lines}
 use Rattle.elimination.specs.Refusals.{refusal}
 use Rattle.elimination.specs.Steps.{Verdict, refused, follows, clash, taken, steps}
 
@@ -56,8 +58,24 @@ Holdable l (Err f) = Unit {0}
 Holdable l (Ok Follows) = Unit {0}
 Holdable l (Ok (Taken q)) = may_hold q l ≡ true
 
--- no line is taken
-abbrev pub Untaken : Result Course SheetFault → Type 0
-Untaken (Err f) = Unit {0}
-Untaken (Ok Follows) = Unit {0}
-Untaken (Ok (Taken q)) = ⊥
+-- ---- what the parts of it promise, over the entries that a ledger shows
+-- a line is written with its row, after the others with theirs; or the others are as they were
+abbrev pub Holds : {V : Type 0} → Result (List V × List (HeldLine V)) StepFault → (n : ℕ) → List Entry → List V → List V → List V → Type 0
+Holds (Ok rows) n es line m m' = (held_lines n m' 0 es ≡ rows.1) × (row_at n m' (length es) ≡ rows.0) × (line_at n m' (length es) ≡ line)
+Holds (Err f) n es line m m' = held_lines n m' 0 es ≡ held_lines n m 0 es
+
+-- a subject is a set point, and there is a place for the line
+abbrev pub Found : (n h : ℕ) → Option ℕ → Type 0
+Found n h None = Unit {0}
+Found n h (Some q) = (q < n) × (h < n)
+
+abbrev pub Proper : (n h : ℕ) → Result Course SheetFault → Type 0
+Proper n h (Err f) = Unit {0}
+Proper n h (Ok Follows) = Unit {0}
+Proper n h (Ok (Taken q)) = (q < n) × (h < n)
+
+abbrev pub entries_after : {V : Type 0} → Verdict V → (label : ℕ) → List Entry → List Entry
+entries_after (refused f) label es = es
+entries_after follows label es = es
+entries_after (clash rs) label es = es
+entries_after (taken q hs) label es = es ++ record { label = label; subject = q } ∷ []

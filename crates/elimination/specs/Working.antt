@@ -1,10 +1,11 @@
 -- What the parts of elimination promise of the memory.
-use Rattle.std.specs.Prelude.{◌≡◌, ℕ, ◌<◌, true, List, length, Some, None, Ok, Err, Option, Result}
+use Rattle.std.specs.Prelude.{◌≡◌, ℕ, true, List, length, Some, None, Ok, Err, Option, Result}
 use Rattle.exact.specs.Kind.{Kind}
 use Rattle.ledger.specs.declared.entry.Entry.{Entry}
 use Rattle.ledger.specs.Listed.{Listed, may_hold}
 use Rattle.elimination.specs.declared.fault.StepFault.{StepFault}
 use Rattle.elimination.specs.Held.{HeldLine, row_at, held_lines, size_in, held_in, row_in}
+use Rattle.elimination.specs.Stating.{Found}
 use Rattle.elimination.specs.Outcome.{Outcome, stuck, spent, solved, work}
 
 -- ---- over the entries that a ledger shows
@@ -12,11 +13,6 @@ use Rattle.elimination.specs.Outcome.{Outcome, stuck, spent, solved, work}
 abbrev pub HoldsRows : {V : Type 0} → Result (List V × List (HeldLine V)) StepFault → (n : ℕ) → List Entry → List V → List V → Type 0
 HoldsRows (Ok rows) n es m m' = (held_lines n m' 0 es ≡ rows.1) × (row_at n m' (length es) ≡ rows.0)
 HoldsRows (Err f) n es m m' = held_lines n m' 0 es ≡ held_lines n m 0 es
-
--- a subject is a set point, and there is a place for the line
-abbrev pub Found : (n h : ℕ) → Option ℕ → Type 0
-Found n h None = Unit {0}
-Found n h (Some q) = (q < n) × (h < n)
 
 abbrev pub Answers : (n h : ℕ) → Result (Option ℕ) StepFault → Type 0
 Answers n h (Ok o) = Found n h o

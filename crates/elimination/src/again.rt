@@ -1,16 +1,18 @@
 ghost use Rattle.std.specs.Prelude.{◌≡◌, ℕ, ◌+◌, ◌<◌, ◌≤◌, length, drop};
 ghost use Rattle.std.proofs.Math.Seq.{paste};
 ghost use Rattle.ledger.specs.Listed.{listed};
-ghost use Rattle.elimination.specs.Held.{needed, line_place, row_at, line_at, size_in, entries_in, held_in, OnlyRow};
-ghost use Rattle.elimination.specs.Parts.{OtherLines, taken_for, HasPlaceFor};
+ghost use Rattle.elimination.specs.Held.{needed, line_place, row_at, line_at, size_in, entries_in, held_in, OnlyRow, OtherLines};
+ghost use Rattle.elimination.specs.Again.{taken_for, HasPlaceFor};
 ghost use Rattle.elimination.specs.Stating.{held_after, entered};
+ghost use Rattle.elimination.specs.Outcome.{multipliers};
 ghost use Rattle.elimination.specs.Steps.{opening, steps};
 
-use crate::laying::set_multipliers;
 use crate::stating::fitting;
 use crate::working::work;
 use exact::number::Number;
+use exact::value::{value_of, zero};
 use ledger::ledger::Ledger;
+use rows::row::fill;
 
 // Copies numbers to an earlier part of the same memory.
 fn copy_back<K: Number>(memory: &mut [K], from: usize, to: usize, count: usize)
@@ -20,6 +22,16 @@ fn copy_back<K: Number>(memory: &mut [K], from: usize, to: usize, count: usize)
 {
     for i in 0..count {
         memory[to + i] = memory[from + i];
+    }
+}
+
+// The multipliers of the line that would be held at the place h: 1 there, and 0 for the others. For a place past them all are 0.
+fn set_multipliers<K: Number>(w: &mut [K], h: usize)
+    ensures { w.new ≡ multipliers K.kind (length w.old) h }
+{
+    fill(w, zero());
+    if h < w.len() {
+        w[h] = value_of(1);
     }
 }
 

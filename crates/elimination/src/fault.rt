@@ -33,14 +33,6 @@ pub enum SheetFault {
     Room,
     // A label outside 1 to 1,000,000.
     Label,
-    // Eight trials are open already.
-    Depth,
-    // The trial is not the innermost open one of this sheet.
-    OtherTrial,
-    // A wait for this set point stands already.
-    Waiting,
-    // No wait for this set point stands.
-    NotWaiting,
     // A number of a line outside its limits, at this position from 1.
     Limit { position: usize },
     // No values meet the line and the held ones; so many records tell why.
@@ -67,10 +59,6 @@ impl SheetFault {
             SheetFault::Length => (3, 0),
             SheetFault::Room => (4, 0),
             SheetFault::Label => (5, 0),
-            SheetFault::Depth => (6, 0),
-            SheetFault::OtherTrial => (7, 0),
-            SheetFault::Waiting => (8, 0),
-            SheetFault::NotWaiting => (9, 0),
             SheetFault::Limit { position } => (20, position),
             SheetFault::Clash { count: _ } => (21, 0),
             SheetFault::Numbers(fault) => {

@@ -1,32 +1,18 @@
 ghost use Rattle.std.specs.Prelude.{◌≡◌, ◌≤◌, true, length, drop, Err, ◌≢◌};
 ghost use Rattle.ledger.specs.Listed.{listed};
-ghost use Rattle.elimination.specs.Held.{wide, needed, lines_place, row_at, held_lines, size_in};
+ghost use Rattle.elimination.specs.Held.{needed, lines_place, row_at, held_lines, size_in};
 ghost use Rattle.elimination.specs.Steps.{subject};
 ghost use Rattle.elimination.specs.Outcome.{found, work as worked};
-ghost use Rattle.elimination.specs.Working.{Found, Answers, Left, working, HasPlace, Remains};
+ghost use Rattle.elimination.specs.Working.{Answers, Left, working, HasPlace, Remains};
 ghost use Rattle.elimination.specs.declared.fault.StepFault.{StepFault as StepFaultOf};
 
 use crate::fault::StepFault;
-use crate::holding::hold;
-use crate::stating::fitting;
+use crate::holding::hold_rows;
+use crate::stating::{fitting, subject_of};
 use crate::steps::go_forward;
 use exact::number::Number;
 use ledger::entry::Entry;
 use ledger::ledger::Ledger;
-use rows::row::highest_nonzero;
-
-// The highest set point that the working row still has. A sheet of n held lines has no place for another.
-fn subject_of<K: Number>(w: &[K], n: usize, h: usize) -> Option<usize>
-    requires few { n ≤ 48 }
-    requires width { length w.now ≡ wide n }
-    ensures answer { result ≡ subject K.kind n h w.now }
-    ensures found { Found n h result }
-{
-    if h < n {
-        return highest_nonzero(&w[0..n]);
-    }
-    None
-}
 
 // The steps over the working row of a sheet with set points.
 fn solve<K: Number>(
@@ -48,7 +34,7 @@ fn solve<K: Number>(
     go_forward(memory, n, entries)?;
     match subject_of(&memory[at..at + width], n, h) {
         Some(q) => {
-            hold(memory, n, entries, q)?;
+            hold_rows(memory, n, entries, q)?;
             Ok(Some(q))
         }
         None => Ok(None),

@@ -1,7 +1,7 @@
 -- Where the numbers of a line begin in the text.
 use Rattle.std.specs.Prelude.{ℕ, ◌+◌, ◌-◌, cond, List, [], ◌∷◌, ℤ, pos, ◌==◌, slice_index_or}
 use Rattle.elimination.specs.declared.fault.SheetFault.{SheetFault}
-use Rattle.elimination.specs.declared.fault.SheetFault.TheVariants.{Size, SetPoint, Length, Room, Label, Depth, OtherTrial, Waiting, NotWaiting, Limit, Clash, Numbers}
+use Rattle.elimination.specs.declared.fault.SheetFault.TheVariants.{Size, SetPoint, Length, Room, Label, Limit, Clash, Numbers}
 use Rattle.reading.specs.declared.term.Term.{Term}
 use Rattle.reading.specs.Form.{Meaning}
 use Rattle.placing.specs.declared.fault.TextFault.{TextFault}
@@ -27,10 +27,6 @@ fault_column SetPoint m n = 0
 fault_column Length m n = 0
 fault_column Room m n = 0
 fault_column Label m n = 0
-fault_column Depth m n = 0
-fault_column OtherTrial m n = 0
-fault_column Waiting m n = 0
-fault_column NotWaiting m n = 0
 fault_column (Limit position) m n = column m n position
 fault_column (Clash count) m n = 0
 fault_column (Numbers f) m n = 0

@@ -23,10 +23,6 @@ sheet_told sheet.SetPoint column = sheet_report sheet.SetPoint
 sheet_told sheet.Length column = sheet_report sheet.Length
 sheet_told sheet.Room column = sheet_report sheet.Room
 sheet_told sheet.Label column = sheet_report sheet.Label
-sheet_told sheet.Depth column = sheet_report sheet.Depth
-sheet_told sheet.OtherTrial column = sheet_report sheet.OtherTrial
-sheet_told sheet.Waiting column = sheet_report sheet.Waiting
-sheet_told sheet.NotWaiting column = sheet_report sheet.NotWaiting
 sheet_told (sheet.Limit position) column = record { number = 20; layer = layer.Sheet; place = column }
 sheet_told (sheet.Clash count) column = sheet_report (sheet.Clash count)
 sheet_told (sheet.Numbers f) column = sheet_report (sheet.Numbers f)

@@ -25,7 +25,7 @@ fresh_opened : {V : Type 0} (K : Kind V) (n most k have : ℕ) → measured n mo
 fresh_opened K n most k have m h =
     let p = picked_is (size_fits n) (leb (needed n) most) (needed n) k m in
     let fits : needed n ≤ have = omega (arith, p.1, h) in
-    ap (λ s. record { n = s; number = 1; held = []; marks = []; waits = [] }) (sized (size_fits n) (leb (needed n) have) (needed n) n p.0 (le-leb (needed n) have fits))
+    ap (λ s. record { n = s; number = 1; held = [] }) (sized (size_fits n) (leb (needed n) have) (needed n) n p.0 (le-leb (needed n) have fits))
 
 pub sheet_done : {V : Type 0} (K : Kind V) (n most k have room : ℕ) (ls : List (ℕ × List ℕ)) (S₀ S' : Contents V) (d₀ d d' : List ℕ) →
     measured n most ≡ Ok k → have ≡ k → S₀ ≡ fresh n 1 have → room ≡ n + 1 → d₀ ≡ [] → Adds K room S₀ ls d₀ d S' → d' ≡ d ++ settled_rows K S' S'.n → SheetDone K n ls d'

@@ -105,7 +105,7 @@ module _ {V : Type 0} (K : Kind V) where
 
   -- a whole sheet: its lines, and then the set points that they settle
   abbrev pub opened : (n : ℕ) → Contents V
-  opened n = record { n = n; number = 1; held = []; marks = []; waits = [] }
+  opened n = record { n = n; number = 1; held = [] }
 
   pub record SheetDone (n : ℕ) (ls : List (ℕ × List ℕ)) (out : List ℕ) : Type 0 where
     pub rows : List ℕ

@@ -18,6 +18,7 @@ use Rattle.elimination.specs.Steps.{Verdict}
 use Rattle.sheet.specs.declared.answer.Stated.{Stated}
 use Rattle.sheet.specs.declared.sheet.Sheet.{Sheet}
 use Rattle.sheet.specs.Contents.{Contents, contents, verdict, stated, after}
+use Rattle.sheet.specs.Stored.{stored, with_contents}
 use Rattle.sheet.specs.Listing.{Checked, lines_of, labels_fit, list_refusal, unless_stopped, checked_from, checking}
 
 -- ---- labels
@@ -77,6 +78,11 @@ module _ {V : Type 0} (K : Kind V) (S : Contents V) (list : List ℤ) (first : �
   passed_whole u e = refused_or_not (Ok u) e
 
 -- ---- the lines
+-- the open trials and the waits are as they were
+pub self_apart : {V : Type 0} (s : Sheet V) → stored s ≡ with_contents (stored s) (contents s)
+unfolding stored
+self_apart s = refl
+
 after_size : {V : Type 0} (S : Contents V) (v : Verdict V) → (after S v).n ≡ S.n
 after_size S v = refl
 
@@ -108,6 +114,7 @@ module _ {V : Type 0} (K : Kind V) (list : List ℤ) (first w count : ℕ) where
       pub size : (contents s).n ≡ (contents s₀).n
       pub rest : drop (used (contents s₀).n) s.memory.now ≡ drop (used (contents s₀).n) s₀.memory.now
       pub lender : s.memory.ghost_name ≡ s₀.memory.ghost_name
+      pub apart : stored s ≡ with_contents (stored s₀) (contents s)
 
     pub begins : Going 0 s₀ rs₀
     begins =
@@ -117,6 +124,7 @@ module _ {V : Type 0} (K : Kind V) (list : List ℤ) (first w count : ℕ) where
           size = refl;
           rest = refl;
           lender = refl;
+          apart = self_apart s₀;
         }
 
     pub ends : (i : ℕ) (s : Sheet V) (rs : List (Record V)) → count ≤ i → i ≤ count → Going i s rs → checked_from K 1 first (lines_of w count list) (contents s₀) rs₀ ≡ record { answer = Ok (count + 1); contents = contents s; records = rs }
@@ -148,8 +156,8 @@ module _ {V : Type 0} (K : Kind V) (list : List ℤ) (first w count : ℕ) where
 
         pub goes_on : (x : Stated) → Ok x ≡ stated (contents s) judged
             → drop (used (contents s).n) s'.memory.now ≡ drop (used (contents s).n) s.memory.now
-            → s'.memory.ghost_name ≡ s.memory.ghost_name → Going (i + 1) s' rs'
-        goes_on x e kept same =
+            → s'.memory.ghost_name ≡ s.memory.ghost_name → stored s' ≡ with_contents (stored s) (contents s') → Going (i + 1) s' rs'
+        goes_on x e kept same near =
             record {
               whole = ap₂ (λ S xs. to_come (i + 1) S xs) now-held written
                   ∙ ap (λ k. checked_from K (i + 1 + 1) k (lines_of w (count - (i + 1)) (drop ((i + 1) * w) list)) (after (contents s) judged) (records_after judged rs)) (sym (add_assoc first i 1))
@@ -157,4 +165,5 @@ module _ {V : Type 0} (K : Kind V) (list : List ℤ) (first w count : ℕ) where
               size = ap (λ S. S.n) now-held ∙ after_size (contents s) judged ∙ t.size;
               rest = past i s rs t s' kept;
               lender = same ∙ t.lender;
+              apart = near ∙ ap (λ X. with_contents X (contents s')) t.apart;
             }

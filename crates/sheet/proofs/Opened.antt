@@ -3,20 +3,20 @@ use Rattle.std.proofs.Common.{◌≡◌, ℕ, Bool, true, false, cond, eqb, List
 use Rattle.std.proofs.lemmas.Bool.Decides.{nat_tests}
 use Rattle.exact.specs.Kind.{Kind}
 use Rattle.ledger.specs.Marked.{newest_of, older}
-use Rattle.elimination.specs.declared.fault.SheetFault.TheVariants.{OtherTrial}
+use Rattle.sheet.specs.declared.fault.TrialFault.TheVariants.{OtherTrial}
 use Rattle.sheet.specs.declared.trial.HandedBack.{HandedBack}
 use Rattle.sheet.specs.declared.trial.Trial.{Trial}
-use Rattle.sheet.specs.Contents.{Contents, with_marks}
+use Rattle.sheet.specs.Stored.{Stored, with_marks}
 use Rattle.sheet.specs.Trials.{mark_of, innermost, closing, keep_after, taken_back, withdraw_after}
 
-module _ {V : Type 0} (S : Contents V) (t : Trial) where
+module _ {V : Type 0} (S : Stored V) (t : Trial) where
   pub none_open : length S.marks ≡ 0 → innermost S t ≡ false
   none_open e = grind (arith, nat_tests)
 
-  pub other_sheet : (t.number ≡ S.number → ⊥) → innermost S t ≡ false
+  pub other_sheet : (t.number ≡ S.contents.number → ⊥) → innermost S t ≡ false
   other_sheet n = grind (arith, nat_tests)
 
-  pub same_sheet : (length S.marks ≡ 0 → ⊥) → t.number ≡ S.number → innermost S t ≡ eqb t.depth (length S.marks)
+  pub same_sheet : (length S.marks ≡ 0 → ⊥) → t.number ≡ S.contents.number → innermost S t ≡ eqb t.depth (length S.marks)
   same_sheet n e = grind (arith, nat_tests)
 
 -- the mark of the innermost trial
@@ -29,7 +29,7 @@ newest_some [] held e = let z : ◌≡◌ {A = ℕ} 0 1 = cc in absurd (omega ar
 newest_some (m ∷ ms) held e = let d : held ≡ m = cc in d
 
 -- a trial that is refused, and one that is closed
-module _ {V : Type 0} (S : Contents V) (K : Kind V) (t : Trial) where
+module _ {V : Type 0} (S : Stored V) (K : Kind V) (t : Trial) where
   pub refused_stays : (b : HandedBack) → closing S t ≡ Err b → (keep_after S t ≡ S) × (withdraw_after S K t ≡ S)
   unfolding closing keep_after withdraw_after
   refused_stays b = go (innermost S t)

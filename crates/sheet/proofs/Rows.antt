@@ -8,7 +8,7 @@ use Rattle.rows.specs.Row.{at}
 use Rattle.rows.proofs.Ops.{at_is}
 use Rattle.elimination.specs.Held.{wide, used, row_place, row_at, held_line, held_lines}
 use Rattle.elimination.proofs.Places.{row_fits, row_length}
-use Rattle.elimination.proofs.Shown.{used_all}
+use Rattle.elimination.proofs.Verdicts.{used_all}
 use Rattle.elimination.proofs.Tests.{equal, unequal}
 use Rattle.sheet.specs.Reading.{row_for, alone, tabled, place_for}
 

@@ -1,12 +1,14 @@
 -- What the answer of a line tells of its verdict.
 use Rattle.std.proofs.Common.{◌≡◌, ℕ, ◌+◌, List, length, Ok, Err, sym, refl, ap, ◌∙◌, ap₂, arith}
+use Rattle.ledger.specs.declared.entry.Entry.{Entry}
 use Rattle.ledger.specs.Listed.{Listed, holding}
 use Rattle.elimination.specs.declared.course.Course.TheVariants.{Follows, Taken}
 use Rattle.elimination.specs.declared.fault.SheetFault.{SheetFault}
 use Rattle.elimination.specs.declared.fault.SheetFault.TheVariants.{Clash}
-use Rattle.elimination.specs.Held.{size_in, held_in}
+use Rattle.elimination.specs.Held.{size_in, entries_in, held_lines, held_in}
 use Rattle.elimination.specs.Stating.{course, held_after, entered}
 use Rattle.elimination.specs.Steps.{Verdict, refused, follows, clash, taken}
+use Rattle.elimination.proofs.Frames.{held_length}
 use Rattle.sheet.specs.declared.answer.Stated.TheVariants as answer
 use Rattle.sheet.specs.Contents.{Contents, stated, after}
 
@@ -46,8 +48,18 @@ size_entered (clash rs) label l have = refl
 size_entered (taken q hs) label l have = refl
 
 -- the contents, by the ledger and the memory after it
-pub contents_after : {V : Type 0} (v : Verdict V) (label number : ℕ) (marks waits : List ℕ) (l l' : Listed) (m m' : List V) → l' ≡ entered v label l → length m' ≡ length m → held_in (entered v label l) m' ≡ held_after v (held_in l m) →
-    ◌≡◌ {A = Contents V} (record { n = size_in l' (length m'); number = number; held = held_in l' m'; marks = marks; waits = waits }) (after (record { n = size_in l (length m); number = number; held = held_in l m; marks = marks; waits = waits }) v)
-contents_after v label number marks waits l l' m m' e same held =
-    ap₂ (λ k hs. record { n = k; number = number; held = hs; marks = marks; waits = waits })
+pub contents_after : {V : Type 0} (v : Verdict V) (label number : ℕ) (l l' : Listed) (m m' : List V) → l' ≡ entered v label l → length m' ≡ length m → held_in (entered v label l) m' ≡ held_after v (held_in l m) →
+    ◌≡◌ {A = Contents V} (record { n = size_in l' (length m'); number = number; held = held_in l' m' }) (after (record { n = size_in l (length m); number = number; held = held_in l m }) v)
+contents_after v label number l l' m m' e same held =
+    ap₂ (λ k hs. record { n = k; number = number; held = hs })
     (ap₂ size_in e same ∙ size_entered v label l (length m)) (ap (λ t. held_in t m') e ∙ held)
+
+-- as many held lines as entries that show
+pub held_count : {V : Type 0} (l : Listed) (m : List V) → length (held_in l m) ≡ length (entries_in l (length m))
+unfolding held_in
+held_count l m = held_length (size_in l (length m)) m 0 (entries_in l (length m))
+
+-- the held lines, by the size and the entries that were found
+pub held_is_in : {V : Type 0} (n : ℕ) (es : List Entry) (l : Listed) (m : List V) → n ≡ size_in l (length m) → es ≡ entries_in l (length m) → held_lines n m 0 es ≡ held_in l m
+unfolding held_in
+held_is_in n es l m size entries = ap₂ (λ k xs. held_lines k m 0 xs) size entries

@@ -2,8 +2,6 @@
 use Rattle.std.specs.Prelude.{ℕ, ◌+◌, Bool, false, cond, List, [], length, ℤ, Ok, Err, Result, nat_le}
 use Rattle.exact.specs.Kind.{Kind}
 use Rattle.ledger.specs.Listed.{listed}
-use Rattle.ledger.specs.Marked.{marked}
-use Rattle.ledger.specs.Waiting.{waiting}
 use Rattle.elimination.specs.declared.fault.SheetFault.{SheetFault}
 use Rattle.elimination.specs.declared.fault.SheetFault.TheVariants.{Size, Clash}
 use Rattle.elimination.specs.Held.{HeldLine, needed, size_in, held_in}
@@ -13,36 +11,15 @@ use Rattle.sheet.specs.declared.answer.Stated.{Stated}
 use Rattle.sheet.specs.declared.answer.Stated.TheVariants.{Follows, Held}
 use Rattle.sheet.specs.declared.sheet.Sheet.{Sheet}
 
--- n set points, the sheet's number, and the held lines with their rows by place; for each open trial, the newest first, how many lines
--- were held when it was opened; and the set points that are waited for, the oldest wait first
+-- n set points, the sheet's number, and the held lines with their rows by place
 pub record Contents (V : Type 0) : Type 0 where
   pub n : ℕ
   pub number : ℕ
   pub held : List (HeldLine V)
-  pub marks : List ℕ
-  pub waits : List ℕ
 
 -- the place of the rows in memory, and what else the memory has, are left open by this
 unfoldable pub contents : {V : Type 0} → Sheet V → Contents V
-contents s =
-    record {
-      n = size_in (listed s.ledger) (length s.memory.now);
-      number = s.number;
-      held = held_in (listed s.ledger) s.memory.now;
-      marks = marked s.marks;
-      waits = waiting s.waits;
-    }
-
--- one part of the contents changed
-module _ {V : Type 0} (S : Contents V) where
-  abbrev pub with_held : List (HeldLine V) → Contents V
-  with_held hs = record { n = S.n; number = S.number; held = hs; marks = S.marks; waits = S.waits }
-
-  abbrev pub with_marks : List ℕ → Contents V
-  with_marks ms = record { n = S.n; number = S.number; held = S.held; marks = ms; waits = S.waits }
-
-  abbrev pub with_waits : List ℕ → Contents V
-  with_waits ps = record { n = S.n; number = S.number; held = S.held; marks = S.marks; waits = ps }
+contents s = record { n = size_in (listed s.ledger) (length s.memory.now); number = s.number; held = held_in (listed s.ledger) s.memory.now }
 
 -- 1 to 48 set points
 abbrev pub size_fits : ℕ → Bool
@@ -58,7 +35,7 @@ size_made (Ok k) n = n
 size_made (Err f) n = 0
 
 abbrev pub fresh : {V : Type 0} → (n number have : ℕ) → Contents V
-fresh n number have = record { n = size_made (measured n have) n; number = number; held = []; marks = []; waits = [] }
+fresh n number have = record { n = size_made (measured n have) n; number = number; held = [] }
 
 -- the verdict on a line, with room for so many records
 abbrev pub verdict : {V : Type 0} → Kind V → Contents V → List ℤ → (label room : ℕ) → Verdict V
@@ -71,4 +48,4 @@ stated S (clash rs) = Err (Clash (length rs))
 stated S (taken q hs) = Ok (Held (length S.held + 1))
 
 abbrev pub after : {V : Type 0} → Contents V → Verdict V → Contents V
-after S v = with_held S (held_after v S.held)
+after S v = record { n = S.n; number = S.number; held = held_after v S.held }

@@ -1,5 +1,7 @@
 pub mod Contents
+pub mod Faults
 pub mod Listing
 pub mod Reading
+pub mod Stored
 pub mod Trials
 pub mod Waits

@@ -1,6 +1,6 @@
 ghost use Rattle.std.specs.Prelude.{◌≡◌};
 
-use elimination::fault::SheetFault;
+use crate::fault::TrialFault;
 
 // A trial that was opened on the sheet of this number, at this depth. Only `open` makes one, and only closing takes one apart. It can be
 // neither copied nor dropped, so a program that lets a trial go, or closes one twice, does not build.
@@ -12,7 +12,7 @@ pub struct Trial {
 // A refused close: the trial, which is still to be closed, and why.
 pub struct HandedBack {
     pub trial: Trial,
-    pub fault: SheetFault,
+    pub fault: TrialFault,
 }
 
 impl Trial {

@@ -4,6 +4,7 @@ ghost use Rattle.elimination.specs.Stating.{records_after};
 ghost use Rattle.elimination.specs.declared.fault.StepFault.{StepFault as StepFaultOf};
 ghost use Rattle.elimination.specs.declared.fault.SheetFault.TheVariants.{Numbers};
 ghost use Rattle.sheet.specs.Contents.{contents, fresh, verdict, stated, after};
+ghost use Rattle.sheet.specs.Stored.{stored, unopened, with_contents};
 ghost use Rattle.sheet.specs.Reading.{settled_answer, solution_answer, solution_after};
 
 use super::Sheet;
@@ -22,6 +23,7 @@ impl<'a, K: Number> Sheet<'a, K> {
     // Never refuses: where n or the memory would not measure up, the sheet has no set point.
     pub fn make(n: usize, number: u16, memory: &'a mut [K]) -> Sheet<'a, K>
         ensures contents { contents result ≡ fresh n number (length memory.old) }
+        ensures stored { stored result ≡ unopened (contents result) }
         ensures memory { result.memory.now ≡ memory.old }
         ensures lender { result.memory.ghost_name ≡ memory.entry.ghost_name }
     {
@@ -53,6 +55,8 @@ impl<'a, K: Number> Sheet<'a, K> {
         ensures records { records.new ≡ records_after (verdict K.kind (contents self.old) line.now label (length records.old)) records.old }
         ensures rest { drop (used (contents self.old).n) self.new.memory.now ≡ drop (used (contents self.old).n) self.old.memory.now }
         ensures lender { self.new.memory.ghost_name ≡ self.old.memory.ghost_name }
+        // The open trials and the waits are as they were.
+        ensures apart { stored self.new ≡ with_contents (stored self.old) (contents self.new) }
         ensures always { K.complete ≡ true → (f : StepFaultOf) → result ≢ Err (Numbers f) }
     {
         let ledger = self.ledger;

@@ -3,6 +3,7 @@ ghost use Rattle.elimination.specs.Held.{used};
 ghost use Rattle.elimination.specs.declared.fault.StepFault.{StepFault as StepFaultOf};
 ghost use Rattle.elimination.specs.declared.fault.SheetFault.TheVariants.{Numbers};
 ghost use Rattle.sheet.specs.Contents.{contents};
+ghost use Rattle.sheet.specs.Stored.{stored, with_contents};
 ghost use Rattle.sheet.specs.Listing.{labels_fit, list_refusal, checking};
 
 use super::Sheet;
@@ -57,6 +58,8 @@ impl<'a, K: Number> Sheet<'a, K> {
         ensures records { records.new ≡ (checking K.kind (contents self.old) list.now first records.old).records }
         ensures rest { drop (used (contents self.old).n) self.new.memory.now ≡ drop (used (contents self.old).n) self.old.memory.now }
         ensures lender { self.new.memory.ghost_name ≡ self.old.memory.ghost_name }
+        // The open trials and the waits are as they were.
+        ensures apart { stored self.new ≡ with_contents (stored self.old) (contents self.new) }
         ensures always { K.complete ≡ true → (i : ℕ) (f : StepFaultOf) → result ≢ Err (record { index = i; fault = Numbers f }) }
     {
         let have = self.memory.len();

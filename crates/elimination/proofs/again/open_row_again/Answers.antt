@@ -4,7 +4,7 @@ use Rattle.elimination.specs.Held.{wide, row_place, line_place, row_at, line_at,
 use Rattle.elimination.proofs.Places.{row_fits, row_line, line_fits}
 use Rattle.elimination.specs.Outcome.{multipliers}
 use Rattle.elimination.proofs.Copies.{source_long, copied_front, copied}
-use Rattle.elimination.proofs.Opening.{part_length, opened_row, opened_only}
+use Rattle.elimination.proofs.Multipliers.{part_length, opened_row, opened_only}
 use Rattle.elimination.proofs.again.open_row_again.Goals as goal
 
 pub copy_back-requires : goal.copy_back-requires

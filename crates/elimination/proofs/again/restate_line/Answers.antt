@@ -5,13 +5,13 @@ use Rattle.elimination.specs.Outcome.{stuck, spent, solved}
 use Rattle.elimination.specs.Working.{working, Remains}
 use Rattle.elimination.specs.Working.{HasPlace as Findable}
 use Rattle.elimination.proofs.Places.{rest_past}
-use Rattle.elimination.proofs.Shown.{used_all}
-use Rattle.elimination.specs.Parts.{taken_for}
+use Rattle.elimination.proofs.Verdicts.{used_all}
+use Rattle.elimination.specs.Again.{taken_for}
 use Rattle.elimination.specs.Stating.{held_after, entered}
 use Rattle.elimination.specs.Steps.{steps}
 use Rattle.elimination.specs.Outcome.{verdict_of}
-use Rattle.elimination.proofs.Tried.{place_free}
-use Rattle.elimination.proofs.Verdicts.{found_fault, found_none, found_some, spent_unmoved, spent_untaken}
+use Rattle.elimination.proofs.Remaining.{place_free}
+use Rattle.elimination.proofs.Outcomes.{found_fault, found_none, found_some, spent_unmoved, spent_untaken}
 use Rattle.elimination.proofs.Worked.{lines_kept, begun_held, verdict_is, taken_held}
 use Rattle.elimination.proofs.again.restate_line.Goals as goal
 

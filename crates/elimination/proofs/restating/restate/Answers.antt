@@ -5,7 +5,8 @@ use Rattle.ledger.specs.declared.ledger.Ledger.{Ledger}
 use Rattle.ledger.specs.Entries.{blank}
 use Rattle.ledger.specs.Listed.{listed, empty, holding}
 use Rattle.elimination.specs.Held.{used, size_in, held_lines, held_in}
-use Rattle.elimination.proofs.Shown.{held_is, held_count, sound_size}
+use Rattle.elimination.proofs.Remaining.{held_is, held_count}
+use Rattle.elimination.proofs.Shown.{sound_size}
 use Rattle.elimination.proofs.Tests.{at_most}
 use Rattle.elimination.specs.Again.{restated}
 use Rattle.elimination.specs.Stating.{entered}

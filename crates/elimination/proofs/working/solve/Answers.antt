@@ -8,7 +8,7 @@ use Rattle.elimination.specs.Outcome.{stuck, solved, found, solved_for, work}
 use Rattle.elimination.specs.Working.{Answers, HoldsRows, Left}
 use Rattle.elimination.proofs.Frames.{held_length, only_held, only_lines}
 use Rattle.elimination.proofs.Places.{row_fits, row_is}
-use Rattle.elimination.proofs.Solving.{forward_stops, went_on}
+use Rattle.elimination.proofs.Outcomes.{forward_stops, went_on}
 use Rattle.elimination.proofs.Walks.{made_ok, made_err, made_from}
 use Rattle.elimination.proofs.working.solve.Goals as goal
 
@@ -68,15 +68,15 @@ returns-in-None g c =
       lines = only_lines n h m m₁ x.only c.requires.held;
     }
 
-pub returns-in_err-hold-in-Some : goal.returns-in_err-hold-in-Some
-returns-in_err-hold-in-Some g c =
+pub returns-in_err-hold_rows-in-Some : goal.returns-in_err-hold_rows-in-Some
+returns-in_err-hold_rows-in-Some g c =
     let K = g.K.Number.kind in
     let n = c.args.n in
     let es = c.args.entries.now in
     let h = length es in
     let m = c.args.memory.now in
     let m₁ = c.go_forward.new.memory in
-    let m₂ = c.hold.new.memory in
+    let m₂ = c.hold_rows.new.memory in
     let hs = held_lines n m 0 es in
     let w = row_at n m h in
     let v = row_at n m₁ h in
@@ -85,28 +85,28 @@ returns-in_err-hold-in-Some g c =
     let kept = only_held n h m m₁ x.only c.requires.held es (omega arith) in
     let went = made_ok (forward K 1 hs w) v (sym x.answer ∙ c.in_ok-go_forward.was) x.made in
     let some : subject K n (length hs) v ≡ Some q = ap₂ (subject K n) (held_length n m 0 es) (sym (row_is n h m₁)) ∙ sym c.subject_of.ensures.answer ∙ c.in-Some.is in
-    let f = c.in_err-hold-in-Some.field-0.0 in
-    let p = err_from_is_err_and c.from_residual-in_err-hold-in-Some.result c.from_residual-in_err-hold-in-Some.ensures.1 in
-    let says : c.from_residual-in_err-hold-in-Some.result ≡ Err f = p.1 ∙ ap Err p.2 in
-    let stopped = made_err (holding K q hs v) f (ap (λ gs. done (holding K q gs v)) (sym kept) ∙ sym c.hold.ensures.answer ∙ c.in_err-hold-in-Some.was) in
+    let f = c.in_err-hold_rows-in-Some.field-0.0 in
+    let p = err_from_is_err_and c.from_residual-in_err-hold_rows-in-Some.result c.from_residual-in_err-hold_rows-in-Some.ensures.1 in
+    let says : c.from_residual-in_err-hold_rows-in-Some.result ≡ Err f = p.1 ∙ ap Err p.2 in
+    let stopped = made_err (holding K q hs v) f (ap (λ gs. done (holding K q gs v)) (sym kept) ∙ sym c.hold_rows.ensures.answer ∙ c.in_err-hold_rows-in-Some.was) in
     let all : work K n hs w ≡ stuck f = went_on K n hs w v (Some q) went some ∙ ap (solved_for K q) stopped in
-    let rows : HoldsRows (Err f) n es m₁ m₂ = subst (λ r. HoldsRows r n es m₁ m₂) (ap (λ gs. holding K q gs v) kept ∙ stopped) c.hold.ensures.rows in
+    let rows : HoldsRows (Err f) n es m₁ m₂ = subst (λ r. HoldsRows r n es m₁ m₂) (ap (λ gs. holding K q gs v) kept ∙ stopped) c.hold_rows.ensures.rows in
     record {
       answer = says ∙ sym (ap found all);
       proper = subst (Answers n h) (sym says) tt;
       left = subst (λ o. Left o n es m m₂) (sym all) (rows ∙ kept);
-      lines = c.hold.ensures.lines ∙ only_lines n h m m₁ x.only c.requires.held;
+      lines = c.hold_rows.ensures.lines ∙ only_lines n h m m₁ x.only c.requires.held;
     }
 
-pub returns-in_ok-hold-in-Some : goal.returns-in_ok-hold-in-Some
-returns-in_ok-hold-in-Some g c =
+pub returns-in_ok-hold_rows-in-Some : goal.returns-in_ok-hold_rows-in-Some
+returns-in_ok-hold_rows-in-Some g c =
     let K = g.K.Number.kind in
     let n = c.args.n in
     let es = c.args.entries.now in
     let h = length es in
     let m = c.args.memory.now in
     let m₁ = c.go_forward.new.memory in
-    let m₂ = c.hold.new.memory in
+    let m₂ = c.hold_rows.new.memory in
     let hs = held_lines n m 0 es in
     let w = row_at n m h in
     let v = row_at n m₁ h in
@@ -115,12 +115,12 @@ returns-in_ok-hold-in-Some g c =
     let kept = only_held n h m m₁ x.only c.requires.held es (omega arith) in
     let went = made_ok (forward K 1 hs w) v (sym x.answer ∙ c.in_ok-go_forward.was) x.made in
     let some : subject K n (length hs) v ≡ Some q = ap₂ (subject K n) (held_length n m 0 es) (sym (row_is n h m₁)) ∙ sym c.subject_of.ensures.answer ∙ c.in-Some.is in
-    let made = made_from (holding K q hs v) (ap (λ gs. done (holding K q gs v)) (sym kept) ∙ sym c.hold.ensures.answer ∙ c.in_ok-hold-in-Some.was) in
+    let made = made_from (holding K q hs v) (ap (λ gs. done (holding K q gs v)) (sym kept) ∙ sym c.hold_rows.ensures.answer ∙ c.in_ok-hold_rows-in-Some.was) in
     let all : work K n hs w ≡ solved q made.0.0 made.0.1 = went_on K n hs w v (Some q) went some ∙ ap (solved_for K q) made.1 in
-    let rows : HoldsRows (Ok made.0) n es m₁ m₂ = subst (λ r. HoldsRows r n es m₁ m₂) (ap (λ gs. holding K q gs v) kept ∙ made.1) c.hold.ensures.rows in
+    let rows : HoldsRows (Ok made.0) n es m₁ m₂ = subst (λ r. HoldsRows r n es m₁ m₂) (ap (λ gs. holding K q gs v) kept ∙ made.1) c.hold_rows.ensures.rows in
     record {
       answer = sym (ap found all);
       proper = c.in-Some.ensures.found;
       left = subst (λ o. Left o n es m m₂) (sym all) rows;
-      lines = c.hold.ensures.lines ∙ only_lines n h m m₁ x.only c.requires.held;
+      lines = c.hold_rows.ensures.lines ∙ only_lines n h m m₁ x.only c.requires.held;
     }

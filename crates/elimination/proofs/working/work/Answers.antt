@@ -6,8 +6,9 @@ use Rattle.elimination.specs.Held.{lines_place, row_at, held_lines, held_in, row
 use Rattle.elimination.specs.Outcome.{spent, found, work}
 use Rattle.elimination.specs.Working.{working, Answers, Left, Remains}
 use Rattle.elimination.proofs.Always.{work_always}
-use Rattle.elimination.proofs.Shown.{held_is, row_shown, left_shows, holdable, used_all}
-use Rattle.elimination.proofs.Solving.{nothing_left}
+use Rattle.elimination.proofs.Remaining.{held_is, row_shown, left_shows, has_place}
+use Rattle.elimination.proofs.Verdicts.{used_all}
+use Rattle.elimination.proofs.Outcomes.{nothing_left}
 use Rattle.elimination.proofs.working.work.Goals as goal
 
 no_entries : (es : List Entry) → length es ≤ 0 → es ≡ []
@@ -52,7 +53,7 @@ returns g c =
     let proper : Answers (size_in l (length m)) (length (entries_in l (length m))) c.solve.result = subst (λ k. Answers k (length (entries_in l (length m))) c.solve.result) size (subst (λ xs. Answers n (length xs) c.solve.result) entries x.proper) in
     record {
       answer = says;
-      proper = holdable l (length m) c.solve.result proper;
+      proper = has_place l (length m) c.solve.result proper;
       left = left_shows l (length m) n es size entries (working K l m) m m' refl c.solve.auto.memory (subst (λ o. Left o n es m m') is x.left);
       lines = subst (λ k. drop (lines_place k) m' ≡ drop (lines_place k) m) size x.lines;
       always = λ all f d. work_always g.K.Number.laws all (size_in l (length m)) (held_in l m) (row_in l m) f (sym says ∙ d);

@@ -3,7 +3,8 @@ use Rattle.elimination.specs.declared.fault.SheetFault.{SheetFault}
 use Rattle.elimination.specs.declared.fault.SheetFault.TheVariants.{Numbers}
 use Rattle.sheet.specs.declared.fault.ListFault.{ListFault}
 use Rattle.sheet.specs.Contents.{contents}
-use Rattle.sheet.proofs.Checking.{size_shown, low_labels, no_numbers, refused_whole, passed_whole, line_inside, line_is, begins, past, stops, goes_on, ends}
+use Rattle.sheet.specs.Stored.{with_contents}
+use Rattle.sheet.proofs.Checking.{size_shown, low_labels, no_numbers, refused_whole, passed_whole, line_inside, line_is, self_apart, begins, past, stops, goes_on, ends}
 use Rattle.sheet.proofs.sheet.Sheet.check.Goals as goal
 
 -- the fault of a line
@@ -27,6 +28,7 @@ returns-in-Err g c =
       records = sym (ap (λ x. x.records) d);
       rest = refl;
       lender = refl;
+      apart = self_apart s;
       always = λ all i f' r. no_numbers n (length a.list.now) a.first (length a.records.now) f' (ap Err (sym (same _ i f (Numbers f') r)) ∙ e);
     }
 
@@ -66,6 +68,7 @@ returns-in-Err-state g c =
       records = sym (ap (λ o. o.records) d);
       rest = past K list a.first (n + 1) (length list / (n + 1)) s a.records.now i c.loop-i.self c.loop-i.records c.loop-i.invariant c.state.new.self x.rest;
       lender = x.lender ∙ c.loop-i.invariant.lender;
+      apart = x.apart ∙ ap (λ X. with_contents X (contents c.state.new.self)) c.loop-i.invariant.apart;
       always = λ all j f' r. x.always all f' (ap Err (same _ j f (Numbers f') r));
     }
 
@@ -77,7 +80,7 @@ loop-i-preserved g c =
     let n = c.fitting-n.result.0 in
     let i = c.loop-i.i in
     let x = c.in_default-state.ensures in
-    goes_on K list a.first (n + 1) (length list / (n + 1)) a.self.now a.records.now i c.loop-i.self c.loop-i.records (omega arith) c.loop-i.invariant _ (line_is (n + 1) i list) c.state.new.self c.state.new.records x.contents x.records _ x.answer x.rest x.lender
+    goes_on K list a.first (n + 1) (length list / (n + 1)) a.self.now a.records.now i c.loop-i.self c.loop-i.records (omega arith) c.loop-i.invariant _ (line_is (n + 1) i list) c.state.new.self c.state.new.records x.contents x.records _ x.answer x.rest x.lender x.apart
 
 pub returns : goal.returns
 returns g c =
@@ -94,5 +97,6 @@ returns g c =
       records = sym (ap (λ o. o.records) d);
       rest = c.loop-i.invariant.rest;
       lender = c.loop-i.invariant.lender;
+      apart = c.loop-i.invariant.apart;
       always = λ all j f' r. no_fault _ _ r;
     }

@@ -1,7 +1,7 @@
-use Rattle.std.proofs.Common.{◌≡◌, ℕ, ◌-◌, ◌<◌, ◌≤◌, Bool, true, false, cond, leb, length, Ok, Err, sym, refl, ap, ◌∙◌, ap₂, ⊎_elim}
+use Rattle.std.proofs.Common.{◌≡◌, ℕ, ◌-◌, ◌<◌, ◌≤◌, Bool, true, false, cond, leb, Ok, Err, sym, ap, ◌∙◌, ap₂, ⊎_elim}
 use Rattle.ledger.specs.Listed.{listed}
 use Rattle.elimination.specs.declared.fault.SheetFault.TheVariants.{SetPoint}
-use Rattle.elimination.proofs.Shown.{held_is}
+use Rattle.sheet.proofs.Stating.{held_is_in}
 use Rattle.elimination.proofs.Tests.{at_most, above}
 use Rattle.sheet.specs.Contents.{contents}
 use Rattle.sheet.specs.Reading.{is_set_point, settled_answer, told, value_at}
@@ -35,6 +35,6 @@ returns g c =
     let S = contents s in
     let n = c.fitting-n.result.0 in
     let size = c.fitting-n.ensures.size in
-    let held = held_is (listed s.ledger) (length s.memory.now) n c.fitting-n.result.1.now size c.fitting-n.ensures.entries s.memory.now refl in
+    let held = held_is_in n c.fitting-n.result.1.now (listed s.ledger) s.memory.now size c.fitting-n.ensures.entries in
     ap Ok (c.read_settled.ensures ∙ ap₂ (λ k hs. told (value_at K k (q - 1) hs)) size held)
     ∙ sym (ap (λ k. cond (is_set_point k q) (Ok (told (value_at K S.n (q - 1) S.held))) (Err SetPoint)) (sym size) ∙ ap (λ (b : Bool). cond b (Ok (told (value_at K S.n (q - 1) S.held))) (Err SetPoint)) (one_of n q c.if-q-lt1.false c.if-q-n.false))

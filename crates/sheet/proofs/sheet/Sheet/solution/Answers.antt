@@ -1,10 +1,10 @@
-use Rattle.std.proofs.Common.{◌≡◌, Bool, true, false, cond, leb, ◌++◌, length, drop, Ok, Err, sym, refl, ap, ◌∙◌, ap₂}
+use Rattle.std.proofs.Common.{◌≡◌, Bool, true, false, cond, leb, ◌++◌, length, drop, Ok, Err, sym, ap, ◌∙◌, ap₂}
 use Rattle.ledger.specs.Listed.{listed}
 use Rattle.elimination.specs.declared.fault.SheetFault.TheVariants.{Room}
 use Rattle.elimination.proofs.Tests.{at_most, above}
 use Rattle.sheet.specs.Contents.{contents}
 use Rattle.sheet.specs.Reading.{solution_of, solution_answer, solution_after}
-use Rattle.elimination.proofs.Shown.{held_is}
+use Rattle.sheet.proofs.Stating.{held_is_in}
 use Rattle.sheet.proofs.sheet.Sheet.solution.Goals as goal
 
 pub returns-then-numbers-n : goal.returns-then-numbers-n
@@ -28,7 +28,7 @@ returns g c =
     let old = c.args.numbers.now in
     let n = c.fitting-n.result.0 in
     let size = c.fitting-n.ensures.size in
-    let held = held_is (listed s.ledger) (length s.memory.now) n c.fitting-n.result.1.now size c.fitting-n.ensures.entries s.memory.now refl in
+    let held = held_is_in n c.fitting-n.result.1.now (listed s.ledger) s.memory.now size c.fitting-n.ensures.entries in
     let enough : leb S.n (length old) ≡ true = ap (λ k. leb k (length old)) (sym size) ∙ at_most n (length old) c.if-numbers-n.false in
     record {
       answer = sym (ap (λ (b : Bool). cond b (Ok tt) (Err Room)) enough);

@@ -1,23 +1,21 @@
 use Rattle.std.proofs.Common.{◌≡◌, ℕ, ◌+◌, Bool, cond, length, Ok, Err, Result, sym, refl, ap, ◌∙◌, arith}
 use Rattle.std.proofs.lemmas.Result.{err_from_is_err_and}
 use Rattle.ledger.specs.Listed.{listed, holding}
-use Rattle.ledger.specs.Marked.{marked}
-use Rattle.ledger.specs.Waiting.{waiting}
 use Rattle.elimination.specs.declared.fault.SheetFault.{SheetFault}
 use Rattle.elimination.specs.declared.fault.SheetFault.TheVariants.{Numbers}
 use Rattle.elimination.specs.Held.{held_in}
 use Rattle.sheet.specs.declared.answer.Stated.{Stated}
 use Rattle.sheet.specs.declared.answer.Stated.TheVariants.{Held}
 use Rattle.sheet.specs.Contents.{contents, verdict}
-use Rattle.sheet.proofs.Stating.{refused_is, follows_is, taken_is, contents_after}
-use Rattle.elimination.proofs.Shown.{held_count}
+use Rattle.sheet.specs.Stored.{stored}
+use Rattle.sheet.proofs.Stating.{refused_is, follows_is, taken_is, contents_after, held_count}
 use Rattle.sheet.proofs.sheet.Sheet.state.Goals as goal
 
 same : (f f' : SheetFault) → ◌≡◌ {A = Result Stated SheetFault} (Err f) (Err f') → f ≡ f'
 same f f' e = cc
 
 pub returns-in_err-state_line : goal.returns-in_err-state_line
-unfolding contents
+unfolding contents stored
 returns-in_err-state_line g c =
     let K = g.K.Number.kind in
     let a = c.args in
@@ -32,10 +30,11 @@ returns-in_err-state_line g c =
     let is = refused_is (contents s) v a.label l f (sym x.answer ∙ c.in_err-state_line.was) in
     record {
       answer = says ∙ is.0;
-      contents = contents_after v a.label s.number (marked s.marks) (waiting s.waits) l l m c.state_line.new.memory is.1 c.state_line.auto.memory x.held;
+      contents = contents_after v a.label s.number l l m c.state_line.new.memory is.1 c.state_line.auto.memory x.held;
       records = x.records;
       rest = x.rest;
       lender = refl;
+      apart = refl;
       always = λ all f' d. x.always all f' (c.in_err-state_line.was ∙ ap Err (same f (Numbers f') (sym says ∙ d)));
     }
 
@@ -43,7 +42,7 @@ no_fault : (o : Stated) (f : SheetFault) → ◌≡◌ {A = Result Stated SheetF
 no_fault o f e = let z : ◌≡◌ {A = ℕ} 0 1 = cc in omega arith
 
 pub returns-in-Follows : goal.returns-in-Follows
-unfolding contents
+unfolding contents stored
 returns-in-Follows g c =
     let K = g.K.Number.kind in
     let a = c.args in
@@ -54,15 +53,16 @@ returns-in-Follows g c =
     let is = follows_is (contents s) v a.label l (sym x.answer ∙ c.in_ok-state_line.was ∙ ap Ok c.in-Follows.is) in
     record {
       answer = is.0;
-      contents = contents_after v a.label s.number (marked s.marks) (waiting s.waits) l l s.memory.now c.state_line.new.memory is.1 c.state_line.auto.memory x.held;
+      contents = contents_after v a.label s.number l l s.memory.now c.state_line.new.memory is.1 c.state_line.auto.memory x.held;
       records = x.records;
       rest = x.rest;
       lender = refl;
+      apart = refl;
       always = λ all f' d. no_fault _ _ d;
     }
 
 pub returns-else-not-hold : goal.returns-else-not-hold
-unfolding contents
+unfolding contents stored
 returns-else-not-hold g c =
     let K = g.K.Number.kind in
     let a = c.args in
@@ -77,9 +77,10 @@ returns-else-not-hold g c =
     let entered : listed c.hold.new.self ≡ holding a.label q l = c.hold.ensures.after ∙ ap (λ (b : Bool). cond b (holding a.label q l) l) c.if-not-hold.false in
     record {
       answer = ap (λ i. Ok (Held (i + 1))) place ∙ is.0;
-      contents = contents_after v a.label s.number (marked s.marks) (waiting s.waits) l (listed c.hold.new.self) m c.state_line.new.memory (entered ∙ is.1) c.state_line.auto.memory x.held;
+      contents = contents_after v a.label s.number l (listed c.hold.new.self) m c.state_line.new.memory (entered ∙ is.1) c.state_line.auto.memory x.held;
       records = x.records;
       rest = x.rest;
       lender = refl;
+      apart = refl;
       always = λ all f' d. no_fault _ _ d;
     }

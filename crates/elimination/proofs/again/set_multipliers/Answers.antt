@@ -2,7 +2,7 @@ use Rattle.std.proofs.Common.{length, replicate, sym, ap, ◌∙◌, arith}
 use lib.ListN.{length-replicate}
 use Rattle.std.proofs.lemmas.List.{set_past}
 use Rattle.elimination.specs.Steps.{one}
-use Rattle.elimination.proofs.laying.set_multipliers.Goals as goal
+use Rattle.elimination.proofs.again.set_multipliers.Goals as goal
 
 pub returns-else-h-w : goal.returns-else-h-w
 returns-else-h-w g c =

@@ -1,8 +1,8 @@
 use Rattle.std.proofs.Common.{◌≡◌, ◌-◌, length, take, sym, ap, ◌∙◌, subst, arith, length-take-le}
 use Rattle.rows.specs.Row.{highest}
-use Rattle.elimination.specs.Working.{Found}
-use Rattle.elimination.proofs.Subjects.{highest_take, subject_is, no_subject}
-use Rattle.elimination.proofs.working.subject_of.Goals as goal
+use Rattle.elimination.specs.Stating.{Found}
+use Rattle.elimination.proofs.Opening.{highest_take, subject_is, no_subject}
+use Rattle.elimination.proofs.stating.subject_of.Goals as goal
 
 pub returns-then-h-n : goal.returns-then-h-n
 returns-then-h-n g c =

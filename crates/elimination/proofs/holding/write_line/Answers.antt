@@ -7,7 +7,7 @@ use Rattle.rows.proofs.Loads.{loaded, no_row_fault}
 use Rattle.elimination.specs.Held.{needed, line_place, line_at}
 use Rattle.elimination.proofs.Frames.{part_own}
 use Rattle.elimination.proofs.Places.{line_fits}
-use Rattle.elimination.proofs.laying.write_line.Goals as goal
+use Rattle.elimination.proofs.holding.write_line.Goals as goal
 
 -- the part that the line has
 part_length : {V : Type 0} (l n : ℕ) (m : List V) → l + (n + 1) ≤ length m → length (take (l + (n + 1) - l) (drop l m)) ≡ n + 1

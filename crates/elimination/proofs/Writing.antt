@@ -1,8 +1,7 @@
 -- The numbers of a new held line in memory: the rows, the other lines and what lies past the sheet stay as they are.
 use Rattle.std.proofs.Common.{◌≡◌, ℕ, ◌+◌, ◌<◌, ◌≤◌, List, length, arith}
 use Rattle.ledger.specs.declared.entry.Entry.{Entry}
-use Rattle.elimination.specs.Held.{wide, row_place, line_place, row_at, held_lines}
-use Rattle.elimination.specs.Parts.{OtherLines}
+use Rattle.elimination.specs.Held.{wide, row_place, line_place, row_at, held_lines, OtherLines}
 use Rattle.elimination.proofs.Frames.{SameAt, held_same, part_under}
 use Rattle.elimination.proofs.Places.{row_line, line_next}
 

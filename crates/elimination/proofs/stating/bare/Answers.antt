@@ -4,7 +4,7 @@ use Rattle.exact.specs.Answers.{value_of}
 use Rattle.elimination.specs.Stating.{course, records_after}
 use Rattle.elimination.specs.Steps.{follows, clash, one}
 use Rattle.elimination.proofs.Verdicts.{bare_steps, first_written}
-use Rattle.elimination.proofs.bare.state_bare.Goals as goal
+use Rattle.elimination.proofs.stating.bare.Goals as goal
 
 pub returns-then-is_zero : goal.returns-then-is_zero
 returns-then-is_zero g c =
@@ -15,7 +15,7 @@ returns-then-is_zero g c =
     let value : c.value_of-constant.result ≡ value_of K z = c.value_of-constant.ensures ∙ ap (value_of K) (to_z-of_z w32 z fits) in
     let e = bare_steps K a.label a.line.now c.requires.long ∙ ap (λ v. cond (K.is_zero v) follows (clash (record { place = 1; label = a.label; multiplier = one K } ∷ []))) (sym value)
     ∙ ap (λ (b : Bool). cond b follows (clash (record { place = 1; label = a.label; multiplier = one K } ∷ []))) (sym c.if-is_zero.ensures) in
-    record { answer = sym (ap course e); untaken = tt; records = sym (ap (λ v. records_after v a.records.now) e) }
+    record { answer = sym (ap course e); proper = tt; records = sym (ap (λ v. records_after v a.records.now) e) }
 
 pub returns : goal.returns
 returns g c =
@@ -28,7 +28,7 @@ returns g c =
     ∙ ap (λ (b : Bool). cond b follows (clash (record { place = 1; label = a.label; multiplier = one K } ∷ []))) (sym c.if-is_zero.ensures) in
     record {
       answer = sym (ap course e);
-      untaken = tt;
+      proper = tt;
       records = ap (λ v. set a.records.now 0 (record { place = 1; label = a.label; multiplier = v })) c.value_of.ensures
           ∙ first_written a.records.now (record { place = 1; label = a.label; multiplier = one K }) c.requires.records ∙ sym (ap (λ v. records_after v a.records.now) e);
     }

@@ -1,0 +1,65 @@
+-- What the steps make of a working row.
+use Rattle.std.proofs.Common.{◌≡◌, ℕ, Bool, true, false, cond, List, [], length, Some, None, Ok, Err, Option, Result, sym, refl, ap, ◌∙◌, subst, arith}
+use Rattle.exact.specs.Kind.{Kind}
+use Rattle.ledger.specs.declared.entry.Entry.{Entry}
+use Rattle.ledger.specs.Listed.{Listed}
+use Rattle.rows.specs.Row.{at}
+use Rattle.elimination.specs.declared.fault.StepFault.{StepFault}
+use Rattle.elimination.specs.Held.{HeldLine, held_lines}
+use Rattle.elimination.specs.Stating.{held_after, entered}
+use Rattle.elimination.specs.Steps.{follows, clash, evidence, forward, subject}
+use Rattle.elimination.specs.Outcome.{Outcome, stuck, spent, solved, found, looked, outcome_of, work, verdict_of}
+use Rattle.elimination.specs.Working.{HoldsRows}
+use Rattle.elimination.specs.Again.{taken_for}
+
+module _ {V : Type 0} (r : Result (List V × List (HeldLine V)) StepFault) (n : ℕ) (es : List Entry) (m : List V) where
+  pub rows_unheld : (f : StepFault) → r ≡ Err f → (m' : List V) → held_lines n m' 0 es ≡ held_lines n m 0 es → HoldsRows r n es m m'
+  rows_unheld f e m' h = subst (λ x. HoldsRows x n es m m') (sym e) h
+
+  pub rows_held : (rows : List V × List (HeldLine V)) → r ≡ Ok rows → (m' : List V) → HoldsRows (Ok rows) n es m m' → HoldsRows r n es m m'
+  rows_held rows e m' h = subst (λ x. HoldsRows x n es m m') (sym e) h
+
+module _ {V : Type 0} (K : Kind V) (n : ℕ) (hs : List (HeldLine V)) (w : List V) where
+  pub forward_stops : (f : StepFault) → forward K 1 hs w ≡ Err f → work K n hs w ≡ stuck f
+  unfolding work
+  forward_stops f e = ap (outcome_of K n hs) e
+
+  pub went_on : (v : List V) (o : Option ℕ) → forward K 1 hs w ≡ Ok v → subject K n (length hs) v ≡ o → work K n hs w ≡ looked K hs v o
+  unfolding work
+  went_on v o e d = ap (outcome_of K n hs) e ∙ ap (looked K hs v) d
+
+-- with no set point the row stays
+pub nothing_left : {V : Type 0} (K : Kind V) (w : List V) → work K 0 [] w ≡ spent w
+unfolding work
+nothing_left K w = refl
+
+-- ---- an outcome, by the subject that was found
+pub found_fault : {V : Type 0} (o : Outcome V) (f : StepFault) → found o ≡ Err f → o ≡ stuck f
+found_fault (stuck g) f e = let d : g ≡ f = cc in ap stuck d
+found_fault (spent w) f e = let z : ◌≡◌ {A = ℕ} 0 1 = cc in absurd (omega arith)
+found_fault (solved q w hs) f e = let z : ◌≡◌ {A = ℕ} 0 1 = cc in absurd (omega arith)
+
+pub found_none : {V : Type 0} (o : Outcome V) → found o ≡ Ok None → (w : List V) × (o ≡ spent w)
+found_none (stuck g) e = let z : ◌≡◌ {A = ℕ} 0 1 = cc in absurd (omega arith)
+found_none (spent w) e = (w, refl)
+found_none (solved q w hs) e = let z : ◌≡◌ {A = ℕ} 0 1 = cc in absurd (omega arith)
+
+pub found_some : {V : Type 0} (o : Outcome V) (q : ℕ) → found o ≡ Ok (Some q) → (w : List V) × (hs : List (HeldLine V)) × (o ≡ solved q w hs)
+found_some (stuck g) q e = let z : ◌≡◌ {A = ℕ} 0 1 = cc in absurd (omega arith)
+found_some (spent w) q e = let z : ◌≡◌ {A = ℕ} 0 1 = cc in absurd (omega arith)
+found_some (solved p w hs) q e = (w, hs, let d : p ≡ q = cc in ap (λ i. solved i w hs) d)
+
+-- ---- a line that is spent changes nothing
+pub spent_unmoved : {V : Type 0} (K : Kind V) (n : ℕ) (hs : List (HeldLine V)) (label : ℕ) (line w : List V) (l : Listed) (gs : List (HeldLine V)) → (entered (verdict_of K n hs label line (spent w)) label l ≡ l) × (held_after (verdict_of K n hs label line (spent w)) gs ≡ gs)
+spent_unmoved K n hs label line w l gs = go (K.is_zero (at K w n))
+  where
+    go : (b : Bool) → (entered (cond b follows (clash (evidence K n hs label w))) label l ≡ l) × (held_after (cond b follows (clash (evidence K n hs label w))) gs ≡ gs)
+    go true = (refl, refl)
+    go false = (refl, refl)
+
+pub spent_untaken : {V : Type 0} (K : Kind V) (n : ℕ) (hs : List (HeldLine V)) (label : ℕ) (line w : List V) → taken_for (verdict_of K n hs label line (spent w)) ≡ None
+spent_untaken K n hs label line w = go (K.is_zero (at K w n))
+  where
+    go : (b : Bool) → taken_for (cond b follows (clash (evidence K n hs label w))) ≡ None
+    go true = refl
+    go false = refl
