@@ -13,7 +13,7 @@ mod Always
 pub mod Shown
 pub mod Judging
 mod Outcomes
-mod Remaining
+pub mod Remaining
 mod Multipliers
 mod Copies
 mod Worked

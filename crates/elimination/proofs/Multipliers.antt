@@ -1,14 +1,10 @@
 -- The working row of a line that stands already: its numbers, then the multipliers.
-use Rattle.std.proofs.Common.{◌≡◌, ℕ, ◌+◌, ◌-◌, ◌≤◌, List, ◌++◌, length, take, drop, sym, refl, ap, ◌∙◌, append_assoc, arith, length-append, length-drop, length-take-le}
+use Rattle.std.proofs.Common.{◌≡◌, ℕ, ◌+◌, ◌-◌, ◌≤◌, List, ◌++◌, length, take, drop, sym, ap, ◌∙◌, append_assoc, arith, length-append, length-drop, length-take-le}
 use borrow.Rule.Slice.PartMut.{put_mid, post_of}
-use Rattle.std.proofs.lemmas.List.Edits.{length-paste}
 use Rattle.std.proofs.lemmas.List.{take_at, drop_at}
-use Rattle.std.proofs.lemmas.Slice.{put_mid-paste, drop-put_mid}
+use Rattle.std.proofs.lemmas.Slice.{drop-put_mid}
 use Rattle.elimination.specs.Held.{wide, row_place, row_at, OnlyRow}
 use Rattle.elimination.proofs.Places.{rest_past}
-
-pub put_length : {V : Type 0} (a k : ℕ) (m v : List V) → a + k ≤ length m → length v ≡ k → length (put_mid a k m v) ≡ length m
-put_length a k m v fits long = ap length (put_mid-paste a k m v v k refl refl (sym long)) ∙ length-paste m a v k fits (omega arith)
 
 -- a part of so many numbers
 pub part_length : {V : Type 0} (a k : ℕ) (m : List V) → a + k ≤ length m → length (take (a + k - a) (drop a m)) ≡ k

@@ -3,13 +3,11 @@ use Rattle.std.proofs.Common.{◌≡◌, ℕ, ◌+◌, ◌<◌, ◌≤◌, Bool,
 use Rattle.exact.specs.Kind.{Kind}
 use Rattle.ledger.specs.declared.entry.Entry.{Entry}
 use Rattle.ledger.specs.Listed.{Listed, holding}
-use Rattle.elimination.specs.Held.{HeldLine, needed, used, lines_place, fits, size_in, entries_in, row_at, line_at, held_line, held_lines, held_in, row_in, OnlyRow}
+use Rattle.elimination.specs.Held.{HeldLine, lines_place, fits, size_in, entries_in, row_at, line_at, held_line, held_lines, held_in, row_in, OnlyRow}
 use Rattle.elimination.specs.Outcome.{solved, work}
 use Rattle.elimination.specs.Working.{working, Remains}
 use Rattle.elimination.proofs.Frames.{held_more, only_held, only_lines}
-use Rattle.elimination.proofs.Places.{lines_fit, rest_past}
 use Rattle.elimination.proofs.Remaining.{held_is, held_count, row_shown}
-use Rattle.elimination.proofs.Verdicts.{used_all}
 use Rattle.elimination.specs.Held.{OtherLines}
 use Rattle.elimination.specs.Steps.{opening, steps}
 use Rattle.elimination.specs.Outcome.{verdict_of}
@@ -26,10 +24,6 @@ entered_shows l m label q = go (fits l (length m))
     go false p = absurd (omega arith)
 
 module _ {V : Type 0} (K : Kind V) (l : Listed) (m : List V) (n : ℕ) (es : List Entry) (size : n ≡ size_in l (length m)) (entries : es ≡ entries_in l (length m)) (held : length es ≤ n) (line : List V) where
-  -- what lies past the sheet, by the numbers that it uses
-  pub rest_used : (m' : List V) → 0 < n → drop (needed n) m' ≡ drop (needed n) m → drop (used (size_in l (length m))) m' ≡ drop (used (size_in l (length m))) m
-  rest_used m' some e = subst (λ k. drop k m' ≡ drop k m) (sym (used_all n some) ∙ ap used size) e
-
   -- the working row is set up
   module _ (m₁ : List V) (same : length m₁ ≡ length m) (only : OnlyRow n (length es) m m₁) (row : row_at n m₁ (length es) ≡ opening K n (length es) line) where
     pub begun_held : held_in l m₁ ≡ held_in l m
@@ -38,9 +32,6 @@ module _ {V : Type 0} (K : Kind V) (l : Listed) (m : List V) (n : ℕ) (es : Lis
     -- the steps leave what lies after the rows
     pub lines_kept : (m₂ : List V) → drop (lines_place (size_in l (length m₁))) m₂ ≡ drop (lines_place (size_in l (length m₁))) m₁ → drop (lines_place n) m₂ ≡ drop (lines_place n) m
     lines_kept m₂ e = subst (λ k. drop (lines_place k) m₂ ≡ drop (lines_place k) m₁) (ap (size_in l) same ∙ sym size) e ∙ only_lines n (length es) m m₁ only held
-
-    pub rest_kept : (m₂ : List V) → drop (lines_place (size_in l (length m₁))) m₂ ≡ drop (lines_place (size_in l (length m₁))) m₁ → drop (needed n) m₂ ≡ drop (needed n) m
-    rest_kept m₂ e = rest_past (lines_place n) (needed n) (lines_fit n) m₂ m (lines_kept m₂ e)
 
     begun : working K l m₁ ≡ work K (size_in l (length m)) (held_in l m) (opening K (size_in l (length m)) (length (held_in l m)) line)
     begun =

@@ -1,7 +1,6 @@
 -- What a fault of the sheet tells.
 use Rattle.std.specs.Prelude.{ℕ}
 use Rattle.exact.specs.Faults.{number_report}
-use Rattle.exact.specs.declared.report.Layer.{Layer}
 use Rattle.exact.specs.declared.report.Layer.TheVariants as layer
 use Rattle.exact.specs.declared.report.Report.{Report}
 use Rattle.elimination.specs.declared.fault.StepFault.{StepFault}

@@ -8,7 +8,7 @@ use Rattle.elimination.specs.declared.fault.SheetFault.TheVariants.{Clash}
 use Rattle.elimination.specs.Held.{size_in, entries_in, held_lines, held_in}
 use Rattle.elimination.specs.Stating.{course, held_after, entered}
 use Rattle.elimination.specs.Steps.{Verdict, refused, follows, clash, taken}
-use Rattle.elimination.proofs.Frames.{held_length}
+use Rattle.elimination.proofs.Remaining.{held_count as shown_count}
 use Rattle.sheet.specs.declared.answer.Stated.TheVariants as answer
 use Rattle.sheet.specs.Contents.{Contents, stated, after}
 
@@ -56,8 +56,7 @@ contents_after v label number l l' m m' e same held =
 
 -- as many held lines as entries that show
 pub held_count : {V : Type 0} (l : Listed) (m : List V) → length (held_in l m) ≡ length (entries_in l (length m))
-unfolding held_in
-held_count l m = held_length (size_in l (length m)) m 0 (entries_in l (length m))
+held_count l m = shown_count l m
 
 -- the held lines, by the size and the entries that were found
 pub held_is_in : {V : Type 0} (n : ℕ) (es : List Entry) (l : Listed) (m : List V) → n ≡ size_in l (length m) → es ≡ entries_in l (length m) → held_lines n m 0 es ≡ held_in l m
