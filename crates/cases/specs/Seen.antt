@@ -1,12 +1,10 @@
 -- A sheet seen from outside: values by the fractions that they tell.
-use Rattle.std.specs.Prelude.{ℕ, ◌+◌, ◌-◌, List, [], ◌∷◌, map, length, ℤ, pos, Ok, Err, Result, slice_index_or}
+use Rattle.std.specs.Prelude.{ℕ, ◌+◌, ◌-◌, List, [], ◌∷◌, map, length, ℤ, pos, Some, None, Option, Ok, Err, Result, slice_index_or}
 use Rattle.exact.specs.Fraction.{Fraction, whole, plus, times}
 use Rattle.exact.specs.Kind.{Kind}
 use Rattle.elimination.specs.declared.fault.SheetFault.{SheetFault}
 use Rattle.elimination.specs.declared.record.Record.{Record}
 use Rattle.elimination.specs.Steps.{Verdict, refused, follows, clash, taken}
-use Rattle.sheet.specs.declared.answer.Settled.{Settled}
-use Rattle.sheet.specs.declared.answer.Settled.TheVariants.{Value, NotSettled}
 use Rattle.sheet.specs.Contents.{Contents, verdict, after}
 use Rattle.sheet.specs.Reading.{settled_answer, solution_of}
 
@@ -57,9 +55,9 @@ module _ {V : Type 0} (K : Kind V) where
   sheet_after S label [] = S
   sheet_after S label (l ∷ ls) = sheet_after (after S (next S l label)) (label + 1) ls
 
-  abbrev point : Result (Settled V) SheetFault → Point
-  point (Ok (Value v)) = At (K.tells v)
-  point (Ok NotSettled) = Open
+  abbrev point : Result (Option V) SheetFault → Point
+  point (Ok (Some v)) = At (K.tells v)
+  point (Ok None) = Open
   point (Err f) = Outside
 
   abbrev pub settled_at : Contents V → (q : ℕ) → Point

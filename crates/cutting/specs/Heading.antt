@@ -1,5 +1,5 @@
 -- The heading of an input.
-use Rattle.std.specs.Prelude.{◌≡◌, ℕ, ◌+◌, ◌*◌, ◌<◌, ◌≤◌, ◌⊎◌, List, [], ◌∷◌, Some, None, Ok, Err, Option, Result, ◌≢◌}
+use Rattle.std.specs.Prelude.{◌≡◌, ℕ, ◌+◌, ◌*◌, ◌<◌, ◌≤◌, ◌⊎◌, List, [], ◌∷◌, Ok, Err, Result, ◌≢◌}
 use Rattle.cutting.specs.declared.heading.KindLetter.{KindLetter}
 use Rattle.cutting.specs.declared.heading.KindLetter.TheVariants.{R, P, I}
 use Rattle.cutting.specs.declared.heading.Heading.{Heading}
@@ -24,14 +24,14 @@ Headed t (Ok h) = IsHeading t h.kind h.n × (1 ≤ h.n) × (h.n ≤ 48)
 Headed t (Err Form) = (k : KindLetter) (n : ℕ) → IsHeading t k n → ⊥
 Headed t (Err Size) = (k : KindLetter) × (n : ℕ) × IsHeading t k n × ((1 ≤ n) × (n ≤ 48) → ⊥)
 
-abbrev pub Parts : List ℕ → Option Heading → Type 0
-Parts t (Some h) = IsHeading t h.kind h.n
-Parts t None = (k : KindLetter) (n : ℕ) → IsHeading t k n → ⊥
+abbrev pub Parts : List ℕ → Result Heading HeadingFault → Type 0
+Parts t (Ok h) = IsHeading t h.kind h.n
+Parts t (Err e) = (e ≡ Form) × ((k : KindLetter) (n : ℕ) → IsHeading t k n → ⊥)
 
-abbrev pub Letters : ℕ → Option KindLetter → Type 0
-Letters b (Some k) = b ≡ letter k
-Letters b None = (k : KindLetter) → b ≢ letter k
+abbrev pub ReadsLetter : ℕ → Result KindLetter HeadingFault → Type 0
+ReadsLetter b (Ok k) = b ≡ letter k
+ReadsLetter b (Err e) = (e ≡ Form) × ((k : KindLetter) → b ≢ letter k)
 
-abbrev pub Counts : ℕ → Option ℕ → Type 0
-Counts b (Some d) = (d < 10) × (b ≡ 48 + d)
-Counts b None = (d : ℕ) → d < 10 → b ≢ 48 + d
+abbrev pub ReadsDigit : ℕ → Result ℕ HeadingFault → Type 0
+ReadsDigit b (Ok d) = (d < 10) × (b ≡ 48 + d)
+ReadsDigit b (Err e) = (e ≡ Form) × ((d : ℕ) → d < 10 → b ≢ 48 + d)

@@ -21,3 +21,6 @@ Taken l l' (Some r) = (left l ≡ r.now ∷ left l') × (l'.label ≡ l.label + 
 abbrev pub Next : Lines → Lines → Option Labelled → Type 0
 Next l l' None = (named l ≡ []) × (named l' ≡ [])
 Next l l' (Some r) = named l ≡ (r.label, r.bytes.now) ∷ named l'
+
+abbrev pub as_pair : Labelled → ℕ × List ℕ
+as_pair r = (r.label, r.bytes.now)

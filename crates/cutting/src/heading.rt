@@ -1,3 +1,5 @@
+ghost use Rattle.cutting.specs.Heading.{ReadsLetter};
+
 // The letter of a number kind: R for fractions, P for parity, I for the index.
 #[derive(Clone, Copy, PartialEq, Eq, Debug)]
 pub enum KindLetter {
@@ -19,4 +21,19 @@ pub enum HeadingFault {
     Form,
     // Its n is not one of 1 to 48.
     Size,
+}
+
+impl TryFrom<u8> for KindLetter {
+    type Error = HeadingFault;
+
+    ghost try_from_gives = { ReadsLetter };
+
+    fn try_from(byte: u8) -> Result<KindLetter, HeadingFault> {
+        match byte {
+            b'R' => Ok(KindLetter::R),
+            b'P' => Ok(KindLetter::P),
+            b'I' => Ok(KindLetter::I),
+            _ => Err(HeadingFault::Form),
+        }
+    }
 }

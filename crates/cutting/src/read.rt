@@ -1,4 +1,4 @@
-ghost use Rattle.cutting.specs.Heading.{Headed, Letters, Counts, Parts};
+ghost use Rattle.cutting.specs.Heading.{Headed, Parts, ReadsDigit};
 
 use crate::heading::{Heading, HeadingFault, KindLetter};
 
@@ -6,51 +6,30 @@ use crate::heading::{Heading, HeadingFault, KindLetter};
 pub fn read_heading(line: &[u8]) -> Result<Heading, HeadingFault>
     ensures { Headed line.now result }
 {
-    match heading_of(line) {
-        Some(heading) if heading.n < 1 || heading.n > 48 => Err(HeadingFault::Size),
-        Some(heading) => Ok(heading),
-        None => Err(HeadingFault::Form),
+    let heading = heading_of(line)?;
+    // The most set points by number: cutting does not know the sheet.
+    if !(1..=48).contains(&heading.n) {
+        return Err(HeadingFault::Size);
     }
+    Ok(heading)
 }
 
 // A letter, a space, and one or two digits.
-fn heading_of(line: &[u8]) -> Option<Heading>
+fn heading_of(line: &[u8]) -> Result<Heading, HeadingFault>
     ensures { Parts line.now result }
 {
-    if line.len() < 3 || line.len() > 4 {
-        return None;
-    }
-    if line[1] != b' ' {
-        return None;
-    }
-    let kind = letter(line[0])?;
-    let n = digit(line[2])?;
-    if line.len() == 3 {
-        return Some(Heading { kind, n });
-    }
-    let ones = digit(line[3])?;
-    Some(Heading {
-        kind,
-        n: 10 * n + ones,
-    })
+    let (letter, n) = match line {
+        [letter, b' ', ones] => (*letter, digit(*ones)?),
+        [letter, b' ', tens, ones] => (*letter, 10 * digit(*tens)? + digit(*ones)?),
+        _ => return Err(HeadingFault::Form),
+    };
+    let kind = KindLetter::try_from(letter)?;
+    Ok(Heading { kind, n })
 }
 
-fn letter(byte: u8) -> Option<KindLetter>
-    ensures { Letters byte result }
+fn digit(byte: u8) -> Result<usize, HeadingFault>
+    ensures { ReadsDigit byte result }
 {
-    match byte {
-        b'R' => Some(KindLetter::R),
-        b'P' => Some(KindLetter::P),
-        b'I' => Some(KindLetter::I),
-        _ => None,
-    }
-}
-
-fn digit(byte: u8) -> Option<usize>
-    ensures { Counts byte result }
-{
-    match byte {
-        b'0'..=b'9' => Some((byte - b'0') as usize),
-        _ => None,
-    }
+    let value = (byte as char).to_digit(10).ok_or(HeadingFault::Form)?;
+    Ok(value as usize)
 }

@@ -1,20 +1,27 @@
-ghost use Rattle.std.specs.Prelude.{◌≡◌, ◌+◌, ◌<◌, ◌≤◌, ◌∷◌, length, take, drop};
+ghost use Rattle.std.specs.Prelude.{◌≡◌, ◌<◌, ◌∷◌, ◌==◌, length};
+ghost use Rattle.std.specs.Iterator.{item_count, YieldsFirstBy};
+ghost use Rattle.std.specs.List.{position};
 ghost use Rattle.cutting.specs.Lines.{lines};
-ghost use Rattle.cutting.specs.Taken.{Taken, Next};
+ghost use Rattle.cutting.specs.Taken.{Taken, Next, named, as_pair};
 
 use crate::lines::{Labelled, Lines};
 
-// Where the first line of a text ends: at its first byte 0A, or at its end.
-fn line_end(text: &[u8]) -> usize
-    ensures within { result ≤ length text.now }
-    ensures cut { 0 < length text.now → lines text.now ≡ take result text.now ∷ lines (drop (result + 1) text.now) }
+// The place of the first byte 0A.
+fn newline(text: &[u8]) -> Option<usize>
+    ensures { result ≡ position (λ b. b == 10) text.now }
 {
-    for (i, byte) in text.iter().enumerate() {
-        if *byte == b'\n' {
-            return i;
-        }
+    text.iter().position(|byte| *byte == b'\n')
+}
+
+// The first line of a text, and what stands after its byte 0A.
+fn first_line(text: &[u8]) -> (&[u8], &[u8])
+    ensures parted { 0 < length text.now → lines text.now ≡ result.0.now ∷ lines result.1.now }
+    ensures shorter { 0 < length text.now → length result.1.now < length text.now }
+{
+    match newline(text) {
+        Some(end) => (&text[..end], &text[end + 1..]),
+        None => text.split_at(text.len()),
     }
-    text.len()
 }
 
 impl<'a> Lines<'a> {
@@ -33,18 +40,13 @@ impl<'a> Lines<'a> {
     pub fn take_line(&mut self) -> Option<&'a [u8]>
         ensures { Taken self.old self.new result }
     {
-        let rest = self.rest;
-        if rest.len() == 0 {
+        if self.rest.is_empty() {
             return None;
         }
-        let end = line_end(rest);
-        self.rest = if end < rest.len() {
-            &rest[end + 1..]
-        } else {
-            &rest[end..]
-        };
+        let (line, rest) = first_line(self.rest);
+        self.rest = rest;
         self.label += 1;
-        Some(&rest[0..end])
+        Some(line)
     }
 
     // Takes the lines up to the first that is not empty.
@@ -54,9 +56,21 @@ impl<'a> Lines<'a> {
         loop {
             let label = self.label;
             let bytes = self.take_line()?;
-            if bytes.len() > 0 {
+            if !bytes.is_empty() {
                 return Some(Labelled { label, bytes });
             }
         }
+    }
+}
+
+impl<'a> Iterator for Lines<'a> {
+    type Item = Labelled<'a>;
+
+    ghost next_gives = { YieldsFirstBy as_pair named };
+
+    ghost remaining = { item_count named };
+
+    fn next(&mut self) -> Option<Labelled<'a>> {
+        self.next_line()
     }
 }

@@ -6,7 +6,6 @@ use Rattle.exact.specs.Answers.{value_of}
 use Rattle.rows.specs.declared.fault.RowFault.{RowFault}
 use Rattle.rows.specs.Row.{at, done, cleared, over_row, highest}
 use Rattle.rows.proofs.Ops.{cleared_always, over_always}
-use Rattle.elimination.specs.declared.course.Course.{Course}
 use Rattle.elimination.specs.declared.fault.Step.{Step}
 use Rattle.elimination.specs.declared.fault.Step.TheVariants.{Forward, Divide, Back}
 use Rattle.elimination.specs.declared.fault.StepFault.{StepFault}
@@ -20,7 +19,7 @@ use Rattle.elimination.specs.Outcome.{found, solved_for, looked, outcome_of, wor
 use Rattle.elimination.proofs.Walks.{made_from}
 
 -- an answer that is no fault of the numbers
-abbrev Sure : Result Course SheetFault → Type 0
+abbrev Sure : Result (Option ℕ) SheetFault → Type 0
 Sure r = (f : StepFault) → r ≡ Err (fault.Numbers f) → ⊥
 
 limited_sure : (o : Option ℕ) (f : StepFault) → limited o ≡ Err (fault.Numbers f) → ⊥

@@ -12,7 +12,12 @@ pub mod Verdicts
 mod Always
 pub mod Shown
 pub mod Judging
+mod Limits
 mod Outcomes
+mod Concluding
+mod Split
+mod Written
+pub mod Ranges
 pub mod Remaining
 mod Multipliers
 mod Copies

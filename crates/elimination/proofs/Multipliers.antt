@@ -1,45 +1,33 @@
--- The working row of a line that stands already: its numbers, then the multipliers.
-use Rattle.std.proofs.Common.{◌≡◌, ℕ, ◌+◌, ◌-◌, ◌≤◌, List, ◌++◌, length, take, drop, sym, ap, ◌∙◌, append_assoc, arith, length-append, length-drop, length-take-le}
-use borrow.Rule.Slice.PartMut.{put_mid, post_of}
-use Rattle.std.proofs.lemmas.List.{take_at, drop_at}
-use Rattle.std.proofs.lemmas.Slice.{drop-put_mid}
+-- The working row of a line: its numbers, then the multipliers.
+use Rattle.std.proofs.Common.{◌≡◌, ℕ, ◌+◌, ◌-◌, ◌≤◌, List, ◌++◌, length, take, drop, ap, ◌∙◌, ap₂, append-nil, arith, length-append, length-drop, length-take-le}
+use borrow.Rule.Slice.PartMut.{put_mid}
+use Rattle.std.proofs.lemmas.List.{drop_all}
+use Rattle.exact.specs.Kind.{Kind}
 use Rattle.elimination.specs.Held.{wide, row_place, row_at, OnlyRow}
-use Rattle.elimination.proofs.Places.{rest_past}
+use Rattle.elimination.specs.Outcome.{multipliers}
+use Rattle.elimination.specs.Steps.{opening}
+use Rattle.elimination.proofs.Frames.{part_own, only_put}
 
--- a part of so many numbers
-pub part_length : {V : Type 0} (a k : ℕ) (m : List V) → a + k ≤ length m → length (take (a + k - a) (drop a m)) ≡ k
-part_length a k m h = length-take-le (a + k - a) (drop a m) (let d = length-drop a m in omega arith) ∙ omega arith
-
-module _ {V : Type 0} (n h : ℕ) (m m₁ line w : List V) (fits : row_place n h + wide n ≤ length m) (same : length m₁ ≡ length m) (long : length line ≡ n + 1) (width : length w ≡ n)
-    (front : take (row_place n h + (n + 1)) m₁ ≡ take (row_place n h) m ++ line) (back : drop (row_place n h + (n + 1)) m₁ ≡ drop (row_place n h + (n + 1)) m) where
-  r : ℕ
-  r = row_place n h
-
+-- the multipliers x are written over the end of a row w that begins with the line
+module _ {V : Type 0} (K : Kind V) (n h : ℕ) (m line w x : List V) (fits : row_place n h + wide n ≤ length m) (long : length w ≡ wide n) (front : take (n + 1) w ≡ line)
+    (size : length x ≡ length (take (length w - (n + 1)) (drop (n + 1) w))) (is : x ≡ multipliers K (length (take (length w - (n + 1)) (drop (n + 1) w))) h) where
   new : List V
-  new = put_mid (r + (n + 1)) n m₁ w
+  new = put_mid (n + 1) (length w - (n + 1)) w x
 
-  rest : List V
-  rest = post_of (r + (n + 1)) n m₁
+  cut : length (take (length w - (n + 1)) (drop (n + 1) w)) ≡ n
+  cut = length-take-le (length w - (n + 1)) (drop (n + 1) w) (let d = length-drop (n + 1) w in omega (arith, d)) ∙ omega (arith, long)
 
-  before : length (take r m) ≡ r
-  unfolding r
-  before = length-take-le r m (omega arith)
+  parts : new ≡ take (n + 1) w ++ x
+  unfolding new
+  parts = ap (λ l. take (n + 1) w ++ (x ++ l)) (drop_all (length w - (n + 1)) (drop (n + 1) w) (let d = length-drop (n + 1) w in omega (arith, d))) ∙ ap (λ l. take (n + 1) w ++ l) (append-nil x)
 
-  parts : new ≡ take r m ++ ((line ++ w) ++ rest)
-  unfolding r new rest
-  parts = ap (λ l. l ++ (w ++ rest)) front ∙ append_assoc (take r m) line (w ++ rest) ∙ ap (λ l. take r m ++ l) (sym (append_assoc line w rest))
+  whole : length new ≡ wide n
+  whole = ap length parts ∙ length-append (take (n + 1) w) x ∙ (let a = length-take-le (n + 1) w (omega arith) in omega (arith, a, size, cut))
 
-  pub opened_row : row_at n (put_mid (row_place n h + (n + 1)) n m₁ w) h ≡ line ++ w
-  unfolding r new
-  opened_row =
-      ap (λ l. take (wide n) (drop r l)) parts
-      ∙ ap (take (wide n)) (drop_at (take r m) ((line ++ w) ++ rest) r before)
-      ∙ take_at (line ++ w) rest (wide n) (let e = length-append line w in omega arith)
+  pub row_opened : row_at n (put_mid (row_place n h) (wide n) m (put_mid (n + 1) (length w - (n + 1)) w x)) h ≡ opening K n h line
+  unfolding new
+  row_opened = part_own (row_place n h) (wide n) m new fits whole ∙ parts ∙ ap₂ (λ a b. a ++ b) front (is ∙ ap (λ i. multipliers K i h) cut)
 
-  pub opened_only : OnlyRow n h m (put_mid (row_place n h + (n + 1)) n m₁ w)
-  unfolding r new
-  opened_only =
-      record {
-        before = ap (take r) parts ∙ take_at (take r m) ((line ++ w) ++ rest) r before;
-        after = drop-put_mid (r + (n + 1)) n m₁ w (r + wide n) (omega arith) (omega arith) width ∙ rest_past (r + (n + 1)) (r + wide n) (omega arith) m₁ m back;
-      }
+  pub row_only : OnlyRow n h m (put_mid (row_place n h) (wide n) m (put_mid (n + 1) (length w - (n + 1)) w x))
+  unfolding new
+  row_only = only_put n h m new fits whole

@@ -1,27 +1,10 @@
--- The working row at its start, and its subject.
-use Rattle.std.proofs.Common.{◌≡◌, ℕ, zero, suc, ◌+◌, ◌<◌, ◌≤◌, Bool, true, false, cond, List, ◌++◌, length, take, drop, set, replicate, Some, None, sym, refl, ap, ◌∙◌, arith, get_or-take}
-use Rattle.std.proofs.lemmas.List.{drop-replicate, set-append_right, set_past}
+-- The subject of a working row.
+use Rattle.std.proofs.Common.{◌≡◌, ℕ, zero, suc, ◌<◌, ◌≤◌, Bool, true, false, cond, List, take, Some, None, sym, refl, ap, ◌∙◌, arith, get_or-take}
 use Rattle.exact.specs.Kind.{Kind}
 use Rattle.rows.specs.Row.{at, highest}
-use Rattle.elimination.specs.Held.{wide}
 use Rattle.elimination.specs.Stating.{Found}
-use Rattle.elimination.specs.Steps.{opening, one, subject}
-use Rattle.elimination.proofs.Tests.{less, not_less}
-use lib.ListN.{length-replicate}
-
-module _ {V : Type 0} (K : Kind V) (n h : ℕ) (line w : List V) (long : length line ≡ n + 1) (is : w ≡ replicate (wide n) K.nil) where
-  multipliers : drop (n + 1) w ≡ replicate n K.nil
-  multipliers = ap (drop (n + 1)) is ∙ drop-replicate (n + 1) (wide n) K.nil ∙ ap (λ i. replicate i K.nil) (omega arith)
-
-  pub opening_held : h < n → set (line ++ drop (n + 1) w) (n + 1 + h) (one K) ≡ opening K n h line
-  opening_held b =
-      ap (λ l. set (line ++ l) (n + 1 + h) (one K)) multipliers
-      ∙ set-append_right line (replicate n K.nil) (n + 1) (n + 1 + h) (one K) long (omega arith)
-      ∙ ap (λ i. line ++ set (replicate n K.nil) i (one K)) (omega arith)
-
-  pub opening_full : n ≤ h → line ++ drop (n + 1) w ≡ opening K n h line
-  opening_full b =
-      ap (λ l. line ++ l) (multipliers ∙ sym (set_past (replicate n K.nil) h (one K) (let e = length-replicate n K.nil in omega arith)))
+use Rattle.elimination.specs.Steps.{subject}
+use Rattle.elimination.proofs.Tests.{less}
 
 module _ {V : Type 0} (K : Kind V) where
   -- columns past the m that are looked at do not count
@@ -41,6 +24,3 @@ module _ {V : Type 0} (K : Kind V) where
 
   pub subject_is : (n h : ℕ) (w : List V) → h < n → (highest K n w ≡ subject K n h w) × Found n h (highest K n w)
   subject_is n h w b = (sym (ap (λ t. cond t (highest K n w) None) (less h n b)), highest_found n n h w (omega arith) b)
-
-  pub no_subject : (n h : ℕ) (w : List V) → n ≤ h → None ≡ subject K n h w
-  no_subject n h w b = sym (ap (λ t. cond t (highest K n w) None) (not_less h n b))

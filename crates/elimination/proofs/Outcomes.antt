@@ -1,23 +1,25 @@
 -- What the steps make of a working row.
 use Rattle.std.proofs.Common.{◌≡◌, ℕ, Bool, true, false, cond, List, [], length, Some, None, Ok, Err, Option, Result, sym, refl, ap, ◌∙◌, subst, arith}
+use Rattle.std.specs.Option.{option_flatten}
+use Rattle.std.specs.Result.{result_ok}
 use Rattle.exact.specs.Kind.{Kind}
-use Rattle.ledger.specs.declared.entry.Entry.{Entry}
 use Rattle.ledger.specs.Listed.{Listed}
 use Rattle.rows.specs.Row.{at}
 use Rattle.elimination.specs.declared.fault.StepFault.{StepFault}
-use Rattle.elimination.specs.Held.{HeldLine, held_lines}
+use Rattle.elimination.specs.declared.held.Held.{Held}
+use Rattle.elimination.specs.Held.{HeldLine, lines_of}
 use Rattle.elimination.specs.Stating.{held_after, entered}
 use Rattle.elimination.specs.Steps.{follows, clash, evidence, forward, subject}
 use Rattle.elimination.specs.Outcome.{Outcome, stuck, spent, solved, found, looked, outcome_of, work, verdict_of}
-use Rattle.elimination.specs.Working.{HoldsRows}
+use Rattle.elimination.specs.Working.{HoldsRows, Left}
 use Rattle.elimination.specs.Again.{taken_for}
 
-module _ {V : Type 0} (r : Result (List V × List (HeldLine V)) StepFault) (n : ℕ) (es : List Entry) (m : List V) where
-  pub rows_unheld : (f : StepFault) → r ≡ Err f → (m' : List V) → held_lines n m' 0 es ≡ held_lines n m 0 es → HoldsRows r n es m m'
-  rows_unheld f e m' h = subst (λ x. HoldsRows x n es m m') (sym e) h
+module _ {V : Type 0} (r : Result (List V × List (HeldLine V)) StepFault) (h : Held) (m : List V) where
+  pub rows_unheld : (f : StepFault) → r ≡ Err f → (m' : List V) → lines_of h m' ≡ lines_of h m → HoldsRows r h m m'
+  rows_unheld f e m' s = subst (λ x. HoldsRows x h m m') (sym e) s
 
-  pub rows_held : (rows : List V × List (HeldLine V)) → r ≡ Ok rows → (m' : List V) → HoldsRows (Ok rows) n es m m' → HoldsRows r n es m m'
-  rows_held rows e m' h = subst (λ x. HoldsRows x n es m m') (sym e) h
+  pub rows_held : (rows : List V × List (HeldLine V)) → r ≡ Ok rows → (m' : List V) → HoldsRows (Ok rows) h m m' → HoldsRows r h m m'
+  rows_held rows e m' s = subst (λ x. HoldsRows x h m m') (sym e) s
 
 module _ {V : Type 0} (K : Kind V) (n : ℕ) (hs : List (HeldLine V)) (w : List V) where
   pub forward_stops : (f : StepFault) → forward K 1 hs w ≡ Err f → work K n hs w ≡ stuck f
@@ -63,3 +65,39 @@ spent_untaken K n hs label line w = go (K.is_zero (at K w n))
     go : (b : Bool) → taken_for (cond b follows (clash (evidence K n hs label w))) ≡ None
     go true = refl
     go false = refl
+
+-- ---- the subject alone, if there is one
+abbrev pub subject_found : {V : Type 0} → Outcome V → Option ℕ
+subject_found o = option_flatten (result_ok (found o))
+
+pub found_taken : {V : Type 0} (o : Outcome V) (q : ℕ) → subject_found o ≡ Some q → found o ≡ Ok (Some q)
+found_taken (stuck f) q e = let z : ◌≡◌ {A = ℕ} 0 1 = cc in absurd (omega arith)
+found_taken (spent w) q e = let z : ◌≡◌ {A = ℕ} 0 1 = cc in absurd (omega arith)
+found_taken (solved p w hs) q e = ap Ok e
+
+-- without one nothing is changed, and no line is taken
+module _ {V : Type 0} (o : Outcome V) (none : subject_found o ≡ None) where
+  pub untaken_left : (h : Held) (m m' : List V) → Left o h m m' → lines_of h m' ≡ lines_of h m
+  untaken_left = go o none
+    where
+      go : (o : Outcome V) → subject_found o ≡ None → (h : Held) (m m' : List V) → Left o h m m' → lines_of h m' ≡ lines_of h m
+      go (stuck f) e h m m' x = x
+      go (spent w) e h m m' x = x.0
+      go (solved p w hs) e h m m' x = let z : ◌≡◌ {A = ℕ} 0 1 = cc in absurd (omega arith)
+
+  module _ (K : Kind V) (n : ℕ) (hs : List (HeldLine V)) (label : ℕ) (line : List V) where
+    pub untaken_moves : (l : Listed) (gs : List (HeldLine V)) → (entered (verdict_of K n hs label line o) label l ≡ l) × (held_after (verdict_of K n hs label line o) gs ≡ gs)
+    untaken_moves l gs = go o none
+      where
+        go : (o : Outcome V) → subject_found o ≡ None → (entered (verdict_of K n hs label line o) label l ≡ l) × (held_after (verdict_of K n hs label line o) gs ≡ gs)
+        go (stuck f) e = (refl, refl)
+        go (spent w) e = spent_unmoved K n hs label line w l gs
+        go (solved p w gs) e = let z : ◌≡◌ {A = ℕ} 0 1 = cc in absurd (omega arith)
+
+    pub untaken_is : taken_for (verdict_of K n hs label line o) ≡ None
+    untaken_is = go o none
+      where
+        go : (o : Outcome V) → subject_found o ≡ None → taken_for (verdict_of K n hs label line o) ≡ None
+        go (stuck f) e = refl
+        go (spent w) e = spent_untaken K n hs label line w
+        go (solved p w gs) e = let z : ◌≡◌ {A = ℕ} 0 1 = cc in absurd (omega arith)

@@ -1,5 +1,5 @@
 -- Where rows and lines lie.
-use Rattle.std.proofs.Common.{◌≡◌, ℕ, ◌+◌, ◌-◌, ◌*◌, ◌<◌, ◌≤◌, List, length, take, drop, sym, ap, ◌∙◌, mul-le-mul_right, add-mul, mul-le-mul, one-mul, mul-add, arith, length-drop, length-take-le, drop-drop}
+use Rattle.std.proofs.Common.{◌≡◌, ℕ, ◌+◌, ◌-◌, ◌*◌, ◌<◌, ◌≤◌, List, length, drop, sym, ap, ◌∙◌, mul-le-mul_right, add-mul, one-mul, mul-add, arith, length-drop, length-take-le, drop-drop}
 use Rattle.elimination.specs.Held.{wide, needed, lines_place, row_place, line_place, row_at}
 
 next : (t u w : ℕ) → t < u → t * w + w ≤ u * w
@@ -35,17 +35,7 @@ line_fits n j h = let a = next j n (n + 1) h in let s = size n in omega (arith, 
 pub row_fits : (n h : ℕ) → h ≤ n → row_place n h + wide n ≤ needed n
 row_fits n h l = let a = next h (n + 1) (wide n) (omega arith) in let s = size n in omega (arith, a, s)
 
--- the numbers of a sheet are few
-pub row_small : (n j : ℕ) → n ≤ 48 → j ≤ n → row_place n j ≤ 4656
-row_small n j a b = mul-le-mul {n₁ = j} {m₁ = wide n} {n₂ = 48} {m₂ = 97} (omega arith) (omega arith)
-
-pub needed_small : (n : ℕ) → n ≤ 48 → needed n ≤ 7105
-needed_small n a = mul-le-mul {n₁ = n + 1} {m₁ = 3 * n + 1} {n₂ = 49} {m₂ = 145} (omega arith) (omega arith)
-
--- the part of a memory that a row's borrow has
-pub row_is : {V : Type 0} (n j : ℕ) (m : List V) → take (row_place n j + wide n - row_place n j) (drop (row_place n j) m) ≡ row_at n m j
-row_is n j m = ap (λ k. take k (drop (row_place n j) m)) (omega arith)
-
+-- the numbers of a row
 pub row_length : {V : Type 0} (n j : ℕ) (m : List V) → row_place n j + wide n ≤ length m → length (row_at n m j) ≡ wide n
 row_length n j m h = length-take-le (wide n) (drop (row_place n j) m) (let d = length-drop (row_place n j) m in omega arith)
 

@@ -1,12 +1,9 @@
 -- The refusals of a line before any step, one by one.
-use Rattle.std.proofs.Common.{◌≡◌, ℕ, ◌+◌, ◌<◌, ◌≤◌, Bool, false, cond, ltb, leb, List, length, ℤ, Ok, Err, Result, ap, ◌∙◌, arith}
+use Rattle.std.proofs.Common.{◌≡◌, ℕ, ◌+◌, ◌<◌, ◌≤◌, Bool, true, false, cond, ltb, List, length, ℤ, Err, Result, ap, ◌∙◌}
 use Rattle.elimination.specs.declared.fault.SheetFault.{SheetFault}
 use Rattle.elimination.specs.declared.fault.SheetFault.TheVariants as fault
 use Rattle.elimination.specs.Refusals.{over_limit, label_fits, limited, refusal}
-use Rattle.elimination.proofs.Tests.{at_most, above, less, not_less, equal, unequal}
-
-pub no_fault : (f : SheetFault) → ◌≡◌ {A = Result Unit SheetFault} (Err f) (Ok tt) → ⊥
-no_fault f e = let z : ◌≡◌ {A = ℕ} 0 1 = cc in omega arith
+use Rattle.elimination.proofs.Tests.{less, not_less, equal, unequal}
 
 module _ (n h : ℕ) (line : List ℤ) (label room : ℕ) where
   by_label : Bool → Result Unit SheetFault
@@ -33,14 +30,10 @@ module _ (n h : ℕ) (line : List ℤ) (label room : ℕ) where
       unfolding by_room
       at_label = at_room ∙ ap by_room (less h room roomy)
 
-      pub low_refused : label < 1 → refusal n h line label room ≡ Err fault.Label
+      pub label_refused : label_fits label ≡ false → refusal n h line label room ≡ Err fault.Label
       unfolding by_label
-      low_refused p = at_label ∙ ap (λ b. by_label (cond b (leb label 1000000) false)) (above 1 label p)
+      label_refused e = at_label ∙ ap by_label e
 
-      pub high_refused : 1 ≤ label → 1000000 < label → refusal n h line label room ≡ Err fault.Label
+      pub by_limits : label_fits label ≡ true → refusal n h line label room ≡ limited (over_limit n 0 line)
       unfolding by_label
-      high_refused p q = at_label ∙ ap (λ b. by_label (cond b (leb label 1000000) false)) (at_most 1 label p) ∙ ap by_label (above label 1000000 q)
-
-      pub by_limits : 1 ≤ label → label ≤ 1000000 → refusal n h line label room ≡ limited (over_limit n 0 line)
-      unfolding by_label
-      by_limits p q = at_label ∙ ap (λ b. by_label (cond b (leb label 1000000) false)) (at_most 1 label p) ∙ ap by_label (at_most label 1000000 q)
+      by_limits e = at_label ∙ ap by_label e

@@ -1,7 +1,6 @@
 -- Stating held lines again.
-use Rattle.std.specs.Prelude.{◌≡◌, ℕ, true, List, [], ◌∷◌, Some, None, Option}
+use Rattle.std.specs.Prelude.{ℕ, List, [], ◌∷◌, Some, None, Option}
 use Rattle.exact.specs.Kind.{Kind}
-use Rattle.ledger.specs.Listed.{Listed, may_hold}
 use Rattle.elimination.specs.Held.{HeldLine}
 use Rattle.elimination.specs.Stating.{held_after}
 use Rattle.elimination.specs.Steps.{Verdict, refused, follows, clash, taken, steps}
@@ -18,8 +17,3 @@ taken_for (refused f) = None
 taken_for follows = None
 taken_for (clash rs) = None
 taken_for (taken q hs) = Some q
-
--- the ledger has a place for it
-abbrev pub HasPlaceFor : Listed → Option ℕ → Type 0
-HasPlaceFor l None = Unit {0}
-HasPlaceFor l (Some q) = may_hold q l ≡ true

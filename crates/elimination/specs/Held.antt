@@ -2,6 +2,7 @@
 use Rattle.std.specs.Prelude.{◌≡◌, ℕ, zero, suc, ◌+◌, ◌*◌, Bool, cond, List, [], ◌∷◌, length, take, drop, nat_le}
 use Rattle.ledger.specs.declared.entry.Entry.{Entry}
 use Rattle.ledger.specs.Listed.{Listed}
+use Rattle.elimination.specs.declared.held.Held.{Held}
 
 -- a held line: its label, its subject (a set point, from 0), its n + 1 numbers, and its solved row of 2 n + 1
 pub record HeldLine (V : Type 0) : Type 0 where
@@ -45,6 +46,13 @@ held_line n m j e = record { label = e.label; subject = e.subject; line = line_a
 abbrev pub held_lines : {V : Type 0} → (n : ℕ) → List V → (j : ℕ) → List Entry → List (HeldLine V)
 held_lines n m j [] = []
 held_lines n m j (e ∷ es) = held_line n m j e ∷ held_lines n m (j + 1) es
+
+-- the held lines of so many set points and such entries, and the working row after theirs
+abbrev pub lines_of : {V : Type 0} → Held → List V → List (HeldLine V)
+lines_of h m = held_lines h.n m 0 h.entries.now
+
+abbrev pub row_of : {V : Type 0} → Held → List V → List V
+row_of h m = row_at h.n m (length h.entries.now)
 
 -- nothing but the row of the place j has changed
 pub record OnlyRow {V : Type 0} (n j : ℕ) (m m' : List V) : Type 0 where

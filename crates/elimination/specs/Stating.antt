@@ -4,13 +4,10 @@ use Rattle.exact.specs.Kind.{Kind}
 use Rattle.exact.specs.Answers.{value_of}
 use Rattle.ledger.specs.declared.entry.Entry.{Entry}
 use Rattle.ledger.specs.Listed.{Listed, holding, may_hold}
-use Rattle.elimination.specs.declared.course.Course.{Course}
-use Rattle.elimination.specs.declared.course.Course.TheVariants.{Follows, Taken}
-use Rattle.elimination.specs.declared.fault.StepFault.{StepFault}
 use Rattle.elimination.specs.declared.fault.SheetFault.{SheetFault}
 use Rattle.elimination.specs.declared.fault.SheetFault.TheVariants.{Clash}
 use Rattle.elimination.specs.declared.record.Record.{Record}
-use Rattle.elimination.specs.Held.{HeldLine, row_at, line_at, held_lines}
+use Rattle.elimination.specs.Held.{HeldLine}
 use Rattle.elimination.specs.Refusals.{refusal}
 use Rattle.elimination.specs.Steps.{Verdict, refused, follows, clash, taken, steps}
 
@@ -22,11 +19,12 @@ unless (Err f) v = refused f
 abbrev pub stating : {V : Type 0} → Kind V → (n : ℕ) → List (HeldLine V) → List ℤ → (label room : ℕ) → Verdict V
 stating K n hs line label room = unless (refusal n (length hs) line label room) (steps K n hs label (map (value_of K) line))
 
-abbrev pub course : {V : Type 0} → Verdict V → Result Course SheetFault
+-- the answer: the subject, and none where the line follows
+abbrev pub course : {V : Type 0} → Verdict V → Result (Option ℕ) SheetFault
 course (refused f) = Err f
-course follows = Ok Follows
+course follows = Ok None
 course (clash rs) = Err (Clash (length rs))
-course (taken q hs) = Ok (Taken q)
+course (taken q hs) = Ok (Some q)
 
 -- the held lines after it
 abbrev pub held_after : {V : Type 0} → Verdict V → List (HeldLine V) → List (HeldLine V)
@@ -52,27 +50,24 @@ entered follows label l = l
 entered (clash rs) label l = l
 entered (taken q hs) label l = holding label q l
 
--- the ledger has a place for a line that is taken
-abbrev pub Holdable : Listed → Result Course SheetFault → Type 0
-Holdable l (Err f) = Unit {0}
-Holdable l (Ok Follows) = Unit {0}
-Holdable l (Ok (Taken q)) = may_hold q l ≡ true
+-- the ledger has a place for a line with a subject
+abbrev pub HasPlaceFor : Listed → Option ℕ → Type 0
+HasPlaceFor l None = Unit {0}
+HasPlaceFor l (Some q) = may_hold q l ≡ true
+
+abbrev pub HasPlace : {E : Type 0} → Listed → Result (Option ℕ) E → Type 0
+HasPlace l (Ok o) = HasPlaceFor l o
+HasPlace l (Err f) = Unit {0}
 
 -- ---- what the parts of it promise, over the entries that a ledger shows
--- a line is written with its row, after the others with theirs; or the others are as they were
-abbrev pub Holds : {V : Type 0} → Result (List V × List (HeldLine V)) StepFault → (n : ℕ) → List Entry → List V → List V → List V → Type 0
-Holds (Ok rows) n es line m m' = (held_lines n m' 0 es ≡ rows.1) × (row_at n m' (length es) ≡ rows.0) × (line_at n m' (length es) ≡ line)
-Holds (Err f) n es line m m' = held_lines n m' 0 es ≡ held_lines n m 0 es
-
 -- a subject is a set point, and there is a place for the line
 abbrev pub Found : (n h : ℕ) → Option ℕ → Type 0
 Found n h None = Unit {0}
 Found n h (Some q) = (q < n) × (h < n)
 
-abbrev pub Proper : (n h : ℕ) → Result Course SheetFault → Type 0
-Proper n h (Err f) = Unit {0}
-Proper n h (Ok Follows) = Unit {0}
-Proper n h (Ok (Taken q)) = (q < n) × (h < n)
+abbrev pub Answers : {E : Type 0} → (n h : ℕ) → Result (Option ℕ) E → Type 0
+Answers n h (Ok o) = Found n h o
+Answers n h (Err f) = Unit {0}
 
 abbrev pub entries_after : {V : Type 0} → Verdict V → (label : ℕ) → List Entry → List Entry
 entries_after (refused f) label es = es

@@ -12,7 +12,8 @@ pub enum Step {
     Back,
 }
 
-// A step that stopped: at the held line of this place, 0 for divide, and with the fault of its row.
+// A step that stopped: at the held line of this place, 0 for divide, and with the fault of its row. No Option: the rules of stating a line
+// (docs/SHEET.md) tell a stop by the step, the place, 0 for divide, and the column.
 #[derive(Clone, Copy, PartialEq, Eq, Debug)]
 pub struct StepFault {
     pub step: Step,
@@ -49,11 +50,11 @@ impl From<StepFault> for SheetFault {
     }
 }
 
-impl SheetFault {
-    pub fn report(self) -> Report
-        ensures { result ≡ sheet_report self }
-    {
-        let (number, place) = match self {
+impl From<SheetFault> for Report {
+    ghost from_gives = { λ x r. r ≡ sheet_report x };
+
+    fn from(fault: SheetFault) -> Report {
+        let (number, place) = match fault {
             SheetFault::Size => (1, 0),
             SheetFault::SetPoint => (2, 0),
             SheetFault::Length => (3, 0),
@@ -61,10 +62,10 @@ impl SheetFault {
             SheetFault::Label => (5, 0),
             SheetFault::Limit { position } => (20, position),
             SheetFault::Clash { count: _ } => (21, 0),
-            SheetFault::Numbers(fault) => {
+            SheetFault::Numbers(step) => {
                 return Report {
-                    place: fault.row.column,
-                    ..fault.row.fault.report()
+                    place: step.row.column,
+                    ..Report::from(step.row.fault)
                 };
             }
         };

@@ -1,81 +1,48 @@
 ghost use Rattle.std.specs.Prelude.{◌≡◌, ℕ, ◌+◌, ◌<◌, ◌≤◌, map, length, drop, pos, slice_index_or, unsigned_abs};
 ghost use Rattle.exact.specs.Answers.{value_of};
 ghost use Rattle.rows.specs.Row.{done};
-ghost use Rattle.elimination.specs.Held.{needed, lines_place, row_at, line_at, held_lines, OtherLines};
-ghost use Rattle.elimination.specs.Stating.{Holds};
+ghost use Rattle.elimination.specs.Held.{needed, lines_place, line_at, lines_of, row_of, OtherLines};
 ghost use Rattle.elimination.specs.Steps.{holding as held_rows};
 ghost use Rattle.elimination.specs.Working.{HoldsRows};
 
 use crate::backstep::{go_back, would_go_back};
 use crate::fault::{Step, StepFault};
+use crate::held::Held;
 use crate::steps::at_place;
 use exact::number::Number;
-use ledger::entry::Entry;
 use rows::row::{divide, load};
 
-// Writes the numbers of the line that is held at the place h.
-fn write_line<K: Number>(memory: &mut [K], n: usize, h: usize, line: &[i32])
-    requires few { n ≤ 48 }
-    requires place { h < n }
-    requires room { needed n ≤ length memory.old }
-    requires long { length line.now ≡ n + 1 }
+// Writes the numbers of a line at the place after the held ones. They are small as `pass` found them: a type for such a line would serve
+// this call and `open_row` alone.
+pub(crate) fn write_line<K: Number>(memory: &mut [K], held: Held<'_>, line: &[i32])
+    requires place { length held.entries.now < held.n }
+    requires room { needed held.n ≤ length memory.old }
+    requires long { length line.now ≡ held.n + 1 }
     requires small { (u : ℕ) → u < length line.now → unsigned_abs (slice_index_or line.now u (pos 0)) ≤ 1000000 }
-    ensures line { line_at n memory.new h ≡ map (value_of K.kind) line.now }
-    ensures others { OtherLines n h memory.old memory.new }
-    ensures rest { drop (needed n) memory.new ≡ drop (needed n) memory.old }
+    ensures line { line_at held.entry.n memory.new (length held.entry.entries.now) ≡ map (value_of K.kind) line.now }
+    ensures others { OtherLines held.entry.n (length held.entry.entries.now) memory.old memory.new }
+    ensures rest { drop (needed held.entry.n) memory.new ≡ drop (needed held.entry.n) memory.old }
 {
-    let from = (n + 1) * (2 * n + 1) + h * (n + 1);
-    match load(&mut memory[from..from + (n + 1)], line) {
-        Ok(()) => {}
-        Err(_) => unreachable(),
-    }
+    load(&mut memory[held.line(held.entries.len())], line).unwrap();
 }
 
 // Divides the working row and clears its subject out of the other rows: all of it, or nothing but the working row.
 pub(crate) fn hold_rows<K: Number>(
     memory: &mut [K],
-    n: usize,
-    entries: &[Entry],
+    held: Held<'_>,
     q: usize,
 ) -> Result<(), StepFault>
-    requires few { n ≤ 48 }
-    requires place { length entries.now < n }
-    requires room { needed n ≤ length memory.old }
-    requires column { q < n }
-    ensures answer { result ≡ done (held_rows K.kind q (held_lines n memory.old 0 entries.now) (row_at n memory.old (length entries.now))) }
-    ensures rows { HoldsRows (held_rows K.kind q (held_lines n memory.old 0 entries.now) (row_at n memory.old (length entries.now))) n entries.now memory.old memory.new }
-    ensures lines { drop (lines_place n) memory.new ≡ drop (lines_place n) memory.old }
+    requires place { length held.entries.now < held.n }
+    requires room { needed held.n ≤ length memory.old }
+    requires column { q < held.n }
+    ensures answer { result ≡ done (held_rows K.kind q (lines_of held.entry memory.old) (row_of held.entry memory.old)) }
+    ensures rows { HoldsRows (held_rows K.kind q (lines_of held.entry memory.old) (row_of held.entry memory.old)) held.entry memory.old memory.new }
+    ensures lines { drop (lines_place held.entry.n) memory.new ≡ drop (lines_place held.entry.n) memory.old }
 {
-    let width = 2 * n + 1;
-    let at = entries.len() * width;
-    let f = memory[at + q];
-    at_place(Step::Divide, 0, divide(&mut memory[at..at + width], f))?;
-    would_go_back(memory, n, entries, q)?;
-    match go_back(memory, n, entries, q) {
-        Ok(()) => Ok(()),
-        Err(_) => unreachable(),
-    }
-}
-
-// Divides the working row, clears its subject out of the other rows and writes the line: all of it, or nothing but the working row.
-pub(crate) fn hold<K: Number>(
-    memory: &mut [K],
-    n: usize,
-    entries: &[Entry],
-    line: &[i32],
-    q: usize,
-) -> Result<(), StepFault>
-    requires few { n ≤ 48 }
-    requires place { length entries.now < n }
-    requires room { needed n ≤ length memory.old }
-    requires long { length line.now ≡ n + 1 }
-    requires small { (u : ℕ) → u < length line.now → unsigned_abs (slice_index_or line.now u (pos 0)) ≤ 1000000 }
-    requires column { q < n }
-    ensures answer { result ≡ done (held_rows K.kind q (held_lines n memory.old 0 entries.now) (row_at n memory.old (length entries.now))) }
-    ensures holds { Holds (held_rows K.kind q (held_lines n memory.old 0 entries.now) (row_at n memory.old (length entries.now))) n entries.now (map (value_of K.kind) line.now) memory.old memory.new }
-    ensures rest { drop (needed n) memory.new ≡ drop (needed n) memory.old }
-{
-    hold_rows(memory, n, entries, q)?;
-    write_line(memory, n, entries.len(), line);
+    let w = &mut memory[held.working_row()];
+    let f = w[q];
+    at_place(Step::Divide, 0, divide(w, f))?;
+    would_go_back(memory, held, q)?;
+    go_back(memory, held, q).unwrap();
     Ok(())
 }

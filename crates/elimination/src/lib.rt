@@ -4,8 +4,8 @@
 mod again;
 mod backstep;
 mod clash;
-pub mod course;
 pub mod fault;
+pub mod held;
 mod holding;
 pub mod record;
 mod refusals;
@@ -13,3 +13,4 @@ pub mod restating;
 pub mod stating;
 mod steps;
 pub mod working;
+mod working_row;

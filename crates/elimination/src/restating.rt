@@ -15,14 +15,12 @@ pub fn restate<K: Number>(ledger: &mut Ledger, memory: &mut [K], count: usize)
     ensures rest { drop (used (size_in (listed ledger.old) (length memory.old))) memory.new ≡ drop (used (size_in (listed ledger.old) (length memory.old))) memory.old }
 {
     let old = *ledger;
-    let (_, entries) = fitting(&old, memory.len());
-    let again = count.min(entries.len());
+    let entries = fitting(&old, memory.len()).entries;
+    let again = &entries[..count.min(entries.len())];
     *ledger = Ledger::new(old.set_points());
-    for place in 0..again {
+    for (place, entry) in again.iter().enumerate() {
         if let Some(subject) = restate_line(ledger, memory, place) {
-            if !ledger.hold(entries[place].label, subject) {
-                unreachable();
-            }
+            ledger.hold(entry.label, subject).unwrap();
         }
     }
 }

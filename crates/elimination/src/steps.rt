@@ -1,13 +1,13 @@
 ghost use Rattle.std.specs.Prelude.{◌≡◌, ℕ, ◌≤◌, length};
 ghost use Rattle.rows.specs.Row.{done, Leaves};
-ghost use Rattle.elimination.specs.Held.{needed, row_at, held_lines, OnlyRow};
+ghost use Rattle.elimination.specs.Held.{needed, lines_of, row_of, OnlyRow};
 ghost use Rattle.elimination.specs.Steps.{located, forward};
 
 use crate::fault::{Step, StepFault};
+use crate::held::Held;
 use exact::number::Number;
-use ledger::entry::Entry;
 use rows::fault::RowFault;
-use rows::table::clear_row;
+use rows::row::clear_column;
 
 // The working row lies after the rows of the held lines, at the place that its line would have.
 
@@ -19,32 +19,23 @@ pub(crate) fn at_place(
 ) -> Result<(), StepFault>
     ensures { result ≡ located step place answer }
 {
-    match answer {
-        Ok(()) => Ok(()),
-        Err(row) => Err(StepFault { step, place, row }),
-    }
+    answer.map_err(|row| StepFault { step, place, row })
 }
 
 // Clears the subjects of the held lines out of the working row.
-pub(crate) fn go_forward<K: Number>(
-    memory: &mut [K],
-    n: usize,
-    entries: &[Entry],
-) -> Result<(), StepFault>
-    requires few { n ≤ 48 }
-    requires held { length entries.now ≤ n }
-    requires room { needed n ≤ length memory.old }
-    ensures answer { result ≡ done (forward K.kind 1 (held_lines n memory.old 0 entries.now) (row_at n memory.old (length entries.now))) }
-    ensures made { Leaves (forward K.kind 1 (held_lines n memory.old 0 entries.now) (row_at n memory.old (length entries.now))) (row_at n memory.new (length entries.now)) }
-    ensures only { OnlyRow n (length entries.now) memory.old memory.new }
+pub(crate) fn go_forward<K: Number>(memory: &mut [K], held: Held<'_>) -> Result<(), StepFault>
+    requires room { needed held.n ≤ length memory.old }
+    ensures answer { result ≡ done (forward K.kind 1 (lines_of held.entry memory.old) (row_of held.entry memory.old)) }
+    ensures made { Leaves (forward K.kind 1 (lines_of held.entry memory.old) (row_of held.entry memory.old)) (row_of held.entry memory.new) }
+    ensures only { OnlyRow held.entry.n (length held.entry.entries.now) memory.old memory.new }
 {
-    let h = entries.len();
-    for j in 0..h {
-        let subject = entries[j].subject as usize;
+    let (rows, rest) = memory.split_at_mut(held.working_row().start);
+    let w = &mut rest[..held.width()];
+    for (j, entry) in held.entries.iter().enumerate() {
         at_place(
             Step::Forward,
             j + 1,
-            clear_row(memory, 2 * n + 1, h, subject, j),
+            clear_column(w, usize::from(entry.subject), &rows[held.row(j)]),
         )?;
     }
     Ok(())

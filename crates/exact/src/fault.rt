@@ -12,11 +12,11 @@ pub enum NumberFault {
     ByZero,
 }
 
-impl NumberFault {
-    pub fn report(self) -> Report
-        ensures { result ≡ number_report self }
-    {
-        let number = match self {
+impl From<NumberFault> for Report {
+    ghost from_gives = { λ x r. r ≡ number_report x };
+
+    fn from(fault: NumberFault) -> Report {
+        let number = match fault {
             NumberFault::Beyond => 40,
             NumberFault::ByZero => 41,
         };

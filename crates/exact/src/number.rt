@@ -16,19 +16,21 @@ pub trait Number: Copy {
     // When two admitted fractions are the same number.
     ghost alike: { Fraction → Fraction → Type 0 };
 
-    // Whether every admitted number has a value.
-    ghost complete: { Bool };
-
-    ghost laws: { Lawful kind admits alike complete };
-
     // Whether the kind holds all the numbers that it admits: then no answer is `Beyond`.
     const COMPLETE: bool;
 
-    // The constant for generic code: no clause can name an associated constant, so each kind answers its own here.
-    fn is_complete() -> bool
-        ensures { result ≡ complete };
+    // The constant, in clauses.
+    ghost COMPLETE: { Bool };
 
-    // The value of a whole number.
+    ghost laws: { Lawful kind admits alike COMPLETE };
+
+    final fn is_complete() -> bool
+        ensures { result ≡ COMPLETE }
+    {
+        Self::COMPLETE
+    }
+
+    // The value of a whole number. Not `TryFrom<i32>`: a bound on that needs a law to say which value it gives.
     fn whole(a: i32) -> Result<Self, NumberFault>
         ensures { result ≡ whole_of kind a };
 
@@ -43,7 +45,7 @@ pub trait Number: Copy {
     fn is_zero(self) -> bool
         ensures { result ≡ kind.is_zero self };
 
-    // Whether two values tell the same number.
+    // Whether two values tell the same number. Not `==`: the values that no function writes all tell 0, and differ.
     fn same(self, b: Self) -> bool
         ensures sure { T result → alike (kind.tells self) (kind.tells b) }
         ensures whenever { alike (kind.tells self) (kind.tells b) → T result };

@@ -7,6 +7,7 @@ pub enum Layer {
 }
 
 // What every fault tells: its number, its layer, and its place, 0 where it names none.
+// Numbers, and no enum or Option: this is the row that is printed, and each fault is an enum before it is a report.
 #[derive(Clone, Copy, PartialEq, Eq, Debug)]
 pub struct Report {
     pub number: u8,

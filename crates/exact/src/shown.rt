@@ -11,6 +11,7 @@ pub struct Parts {
 }
 
 // A kind whose values can be printed: each tells a fraction of numbers up to a million.
+// Not `Into<Parts>`: a bound on that needs a law to say which parts it gives.
 pub trait Shown: Number {
     fn parts(self) -> Parts
         ensures told { Self.Number.kind.tells self ≡ fraction result.top (pos result.bottom) }

@@ -7,18 +7,12 @@ use crate::number::Number;
 pub fn zero<K: Number>() -> K
     ensures { result ≡ K.kind.nil }
 {
-    match K::whole(0) {
-        Ok(v) => v,
-        Err(_) => unreachable(),
-    }
+    K::whole(0).unwrap()
 }
 
 // The value of a whole number: every kind holds those up to a million either way. One that is not held gives 0.
 pub fn value_of<K: Number>(a: i32) -> K
     ensures { result ≡ value_of K.kind a }
 {
-    match K::whole(a) {
-        Ok(v) => v,
-        Err(_) => zero(),
-    }
+    K::whole(a).unwrap_or_else(|_| zero())
 }

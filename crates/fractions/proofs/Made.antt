@@ -1,5 +1,6 @@
 -- What a fraction is made as, by its terms over the greatest common divisor.
 use Rattle.std.proofs.Common.{◌≡◌, ℕ, zero, suc, ◌+◌, ◌-◌, ◌*◌, ◌/◌, ◌<◌, ◌≤◌, Bool, true, false, cond, not, T, eqb, ◌⊎◌, ℤ, pos, negsuc, ◌*ℤ◌, nat_abs, Some, None, Ok, Err, sym, refl, ap, ◌∙◌, subst, ap₂, inl, inr, mul-zero, arith}
+use Rattle.std.proofs.lemmas.Int.{unsigned_abs-mul}
 use mathlib.Core.Bool.{beq}
 use lib.Dec.{eqb-suc-zero, leb-suc-zero}
 use lib.Signed.{lt_z}
@@ -12,7 +13,7 @@ use Rattle.fractions.specs.Gcd.{gcd}
 use Rattle.fractions.specs.Making.{new_of}
 use Rattle.fractions.specs.Reduced.{g_positive, lower_positive}
 use Rattle.fractions.specs.Told.{both_within, size_positive}
-use Rattle.fractions.specs.Unique.{same_terms, abs_mul}
+use Rattle.fractions.specs.Unique.{same_terms}
 use Rattle.fractions.specs.Value.{negative, differ, signed, abs_signed, within, within_parts, terms_lowest, made, over, value_of}
 
 pub not_zero_test : (z : ℤ) → (z ≡ pos 0 → ⊥) → eqb (nat_abs z) 0 ≡ false
@@ -97,7 +98,7 @@ unlike true true = refl
 
 -- a product by a number that is not 0 is 0 where the other factor is
 pub product_zero : (d : ℕ) → 1 ≤ d → (z : ℤ) → eqb (nat_abs (pos d *ℤ z)) 0 ≡ eqb (nat_abs z) 0
-product_zero d h z = ap (λ (n : ℕ). eqb n 0) (abs_mul (pos d) z) ∙ go (nat_abs z)
+product_zero d h z = ap (λ (n : ℕ). eqb n 0) (unsigned_abs-mul (pos d) z) ∙ go (nat_abs z)
   where
     go : (n : ℕ) → eqb (d * n) 0 ≡ eqb n 0
     go zero = ap (λ (k : ℕ). eqb k 0) (mul-zero d)

@@ -1,6 +1,7 @@
 -- Two values that tell the same number are equal.
-use Rattle.std.specs.Prelude.{◌≡◌, ℕ, zero, suc, ◌*◌, ◌≤◌, ℤ, pos, negsuc, ◌*ℤ◌, neg_ℤ, ◌≢◌, unsigned_abs, refl}
+use Rattle.std.specs.Prelude.{◌≡◌, ℕ, ◌*◌, ◌≤◌, ℤ, pos, ◌*ℤ◌, ◌≢◌, unsigned_abs}
 use Rattle.std.proofs.Common.{sym, ap, ◌∙◌, arith}
+use Rattle.std.proofs.lemmas.Int.{unsigned_abs-mul}
 use mathlib.Core.HLevel.{is_prop→PathP}
 use Rattle.std.proofs.Math.Bridge.{le_prop}
 use Rattle.std.proofs.Math.Nat.{ℕ_set}
@@ -19,19 +20,9 @@ lowest_prop num den = λ x y i. (le_prop x.0 y.0 i, le_prop x.1 y.1 i, le_prop x
 pub same_terms : (v w : Ratio) → v.num ≡ w.num → v.den ≡ w.den → v ≡ w
 same_terms v w p q = λ i. record { num = p i; den = q i; held = is_prop→PathP (λ j. LowestTerms (p j) (q j)) (λ j. lowest_prop (p j) (q j)) v.held w.held i }
 
-abs_neg : (n : ℕ) → unsigned_abs (neg_ℤ (pos n)) ≡ n
-abs_neg zero = refl
-abs_neg (suc n) = refl
-
-pub abs_mul : (a b : ℤ) → unsigned_abs (a *ℤ b) ≡ unsigned_abs a * unsigned_abs b
-abs_mul (pos a) (pos b) = refl
-abs_mul (pos a) (negsuc b) = abs_neg (a * suc b)
-abs_mul (negsuc a) (pos b) = abs_neg (suc a * b)
-abs_mul (negsuc a) (negsuc b) = refl
-
 -- without the signs
 pub sizes : (v : Ratio) (x : Fraction) → Equal (tells v) x → unsigned_abs v.num * unsigned_abs x.bottom ≡ v.den * unsigned_abs x.top
-sizes v x e = sym (abs_mul v.num x.bottom) ∙ ap unsigned_abs e ∙ abs_mul (pos v.den) x.top
+sizes v x e = sym (unsigned_abs-mul v.num x.bottom) ∙ ap unsigned_abs e ∙ unsigned_abs-mul (pos v.den) x.top
 
 pub flip : (v w : Ratio) → Equal (tells v) (tells w) → Equal (tells w) (tells v)
 flip v w e = *ℤ_comm w.num (pos v.den) ∙ sym e ∙ *ℤ_comm v.num (pos w.den)

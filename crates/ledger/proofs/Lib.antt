@@ -1,6 +1,3 @@
-mod Kept
-mod Pigeon
-mod Places
-mod Separate
-mod Stacked
+pub mod Reversed
+mod Room
 mod Standing

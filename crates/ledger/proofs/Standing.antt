@@ -1,70 +1,75 @@
--- Which set points are waited for, by the table.
-use Rattle.std.proofs.Common.{◌≡◌, ℕ, zero, suc, ◌+◌, ◌<◌, ◌≤◌, Bool, true, false, cond, eqb, ◌⊎◌, List, [], ◌∷◌, length, get_or, take, drop, sym, ap, ◌∙◌, arith, length-take-le, get_or-take}
-use Rattle.std.proofs.lemmas.List.{length-map, get_or-map, at_drop_more, at_drop_all}
-use Rattle.std.proofs.lemmas.Bool.{eq-eqb, ne_eqb, true≢false}
-use Rattle.std.proofs.lemmas.Bool.Decides.{nat_tests}
+-- Whether a wait stands, by the waits.
+use Rattle.std.proofs.Common.{◌≡◌, ℕ, zero, suc, ◌+◌, ◌<◌, ◌≢◌, Bool, true, false, cond, eqb, not, ◌||◌, List, [], ◌∷◌, map, filter, length, get_or, remove, position, is_some, Some, All, sym, refl, ap, ◌∙◌, arith}
+use Rattle.std.specs.List.{list_any, position_from}
+use Rattle.std.proofs.lemmas.Iterator.Adapters.{position_from-zero}
+use Rattle.std.proofs.lemmas.List.Quantifiers.{position-Some}
+use Rattle.std.proofs.lemmas.List.Folds.{list_any_at}
+use Rattle.std.proofs.lemmas.Bool.{eq-eqb, ne_eqb, eqb-true, true≢false}
 use Rattle.ledger.specs.declared.wait.Wait.{Wait}
-use Rattle.ledger.specs.declared.waits.Waits.{Waits}
-use Rattle.ledger.specs.Apart.{no_wait, point_at}
-use Rattle.ledger.specs.Waiting.{waiting, stands, may_wait}
-use Rattle.ledger.proofs.Separate.{room}
+use Rattle.ledger.specs.Apart.{Apart}
+use Rattle.ledger.specs.Waiting.{stands, without}
 
-abbrev point : Wait → ℕ
+abbrev pub point : Wait → ℕ
 point w = w.set_point
 
-module _ (w : Waits) where
-  pub waiting_length : length (waiting w) ≡ w.count
-  unfolding waiting
-  waiting_length = length-map (take w.count w.table) point ∙ length-take-le w.count w.table (let s = w.sound in omega arith)
+-- a wait for q
+abbrev pub for_it : (q : ℕ) → Wait → Bool
+for_it q w = eqb w.set_point q
 
-  pub waiting_at : (k : ℕ) → k < w.count → get_or (waiting w) k 0 ≡ point_at w.table k
-  unfolding waiting
-  waiting_at k h =
-      let s = w.sound in
-      let long : length (take w.count w.table) ≡ w.count = length-take-le w.count w.table (omega arith) in
-      get_or-map point (take w.count w.table) k no_wait 0 (omega arith) ∙ ap point (get_or-take w.count w.table k no_wait h)
+-- a wait for another set point
+abbrev pub other : (q : ℕ) → Wait → Bool
+other q w = not (eqb w.set_point q)
 
-  -- ---- the waits from the place k on
-  module _ (q k : ℕ) (h : k < w.count) where
-    turn : stands q (drop k (waiting w)) ≡ cond (eqb (point_at w.table k) q) true (stands q (drop (k + 1) (waiting w)))
-    turn =
-        let long = waiting_length in
-        let here : stands q (drop k (waiting w)) ≡ cond (eqb (get_or (waiting w) k 0) q) true (stands q (drop (k + 1) (waiting w))) = at_drop_more (stands q) (waiting w) k 0 (omega arith) in
-        here ∙ ap (λ p. cond (eqb p q) true (stands q (drop (k + 1) (waiting w)))) (waiting_at k h)
-
-    pub stands_here : point_at w.table k ≡ q → stands q (drop k (waiting w)) ≡ true
-    stands_here e = turn ∙ ap (λ b. cond b true (stands q (drop (k + 1) (waiting w)))) (eq-eqb (point_at w.table k) q e)
-
-    pub stands_later : (point_at w.table k ≡ q → ⊥) → stands q (drop k (waiting w)) ≡ stands q (drop (k + 1) (waiting w))
-    stands_later n = turn ∙ ap (λ b. cond b true (stands q (drop (k + 1) (waiting w)))) (ne_eqb (point_at w.table k) q n)
-
-  pub stands_nowhere : (q k : ℕ) → w.count ≤ k → stands q (drop k (waiting w)) ≡ false
-  stands_nowhere q k h = let long = waiting_length in at_drop_all (stands q) (waiting w) k (omega arith)
-
--- ---- where none stands
-never : (q : ℕ) (ps : List ℕ) → stands q ps ≡ false → (k : ℕ) → k < length ps → get_or ps k 0 ≡ q → ⊥
-never q [] e k h d = omega arith
-never q (p ∷ ps) e zero h d = true≢false (sym (ap (λ b. cond b true (stands q ps)) (eq-eqb p q d)) ∙ e)
-never q (p ∷ ps) e (suc k) h d = never q ps (rest (eqb p q) e) k (omega arith) d
+pub stands_any : (q : ℕ) (ws : List Wait) → list_any (for_it q) ws ≡ stands q (map point ws)
+stands_any q [] = refl
+stands_any q (w ∷ ws) = go (for_it q w) (stands_any q ws)
   where
-    rest : (b : Bool) → cond b true (stands q ps) ≡ false → stands q ps ≡ false
-    rest true e = absurd (true≢false e)
-    rest false e = e
+    go : (b : Bool) → list_any (for_it q) ws ≡ stands q (map point ws) → (b || list_any (for_it q) ws) ≡ cond b true (stands q (map point ws))
+    go true e = refl
+    go false e = e
 
-pub new_point : (w : Waits) (q : ℕ) → stands q (waiting w) ≡ false → (k : ℕ) → k < w.count → point_at w.table k ≡ q → ⊥
-new_point w q e k h d = let long = waiting_length w in never q (waiting w) e k (omega arith) (waiting_at w k h ∙ d)
+pub none_stands : (q : ℕ) (ws : List Wait) → stands q (map point ws) ≡ false → All (λ w. w.set_point ≡ q → ⊥) ws
+none_stands q ws e k d h same = true≢false (sym (list_any_at (for_it q) ws k d h (eq-eqb (point (get_or ws k d)) q same)) ∙ stands_any q ws ∙ e)
 
--- a wait that does not stand has a place in the table
-pub place_left : (w : Waits) (q : ℕ) → 1 ≤ q → q ≤ 48 → stands q (waiting w) ≡ false → w.count < 48
-place_left w q low high e = room w.count w.table q w.sound.2 w.sound.3 low high (new_point w q e)
+pub without_is : (q : ℕ) (ws : List Wait) → map point (filter (other q) ws) ≡ without q (map point ws)
+without_is q [] = refl
+without_is q (w ∷ ws) = go (other q w) (without_is q ws)
+  where
+    go : (b : Bool) → map point (filter (other q) ws) ≡ without q (map point ws) →
+        map point (cond b (w ∷ filter (other q) ws) (filter (other q) ws)) ≡ cond b (w.set_point ∷ without q (map point ws)) (without q (map point ws))
+    go true e = ap (λ ps. w.set_point ∷ ps) e
+    go false e = e
 
--- ---- whether a wait may be placed
-module _ (q : ℕ) (ps : List ℕ) where
-  pub no_point : (q < 1) ⊎ ((1 ≤ q) × (48 < q)) → may_wait q ps ≡ false
-  no_point h = grind (arith, nat_tests)
+-- it stands where its place is found
+pub found_stands : (q : ℕ) (ws : List Wait) → is_some (position (for_it q) ws) ≡ stands q (map point ws)
+found_stands q ws = ap is_some (position_from-zero (for_it q) ws) ∙ go 0 ws
+  where
+    go : (j : ℕ) (ws : List Wait) → is_some (position_from (for_it q) j ws) ≡ stands q (map point ws)
+    go j [] = refl
+    go j (w ∷ ws) = step (for_it q w) (go (j + 1) ws)
+      where
+        step : (b : Bool) → is_some (position_from (for_it q) (j + 1) ws) ≡ stands q (map point ws) →
+            is_some (cond b (Some j) (position_from (for_it q) (j + 1) ws)) ≡ cond b true (stands q (map point ws))
+        step true e = refl
+        step false e = e
 
-  pub not_again : stands q ps ≡ true → may_wait q ps ≡ false
-  not_again e = grind (arith, nat_tests)
+-- no other wait is for q
+others : (q : ℕ) (ws : List Wait) → All (λ w. w.set_point ≢ q) ws → filter (other q) ws ≡ ws
+others q [] h = refl
+others q (w ∷ ws) h =
+    ap (λ b. cond (not b) (w ∷ filter (other q) ws) (filter (other q) ws)) (ne_eqb w.set_point q (h 0 w (omega arith)))
+    ∙ ap (λ l. w ∷ l) (others q ws (λ k d l. h (suc k) d (omega arith)))
 
-  pub free_point : 1 ≤ q → q ≤ 48 → stands q ps ≡ false → may_wait q ps ≡ true
-  free_point l h e = grind (arith, nat_tests)
+removed : (q : ℕ) (ws : List Wait) (i : ℕ) → i < length ws → ((d : Wait) → (get_or ws i d).set_point ≡ q) → Apart ws → remove ws i ≡ filter (other q) ws
+removed q [] i within at apart = absurd (omega arith)
+removed q (w ∷ ws) zero within at apart =
+    sym (ap (λ b. cond (not b) (w ∷ filter (other q) ws) (filter (other q) ws)) (eq-eqb w.set_point q (at w))
+    ∙ others q ws (λ k d l e. apart 0 (suc k) d (omega arith) (omega arith) (at d ∙ sym e)))
+removed q (w ∷ ws) (suc i) within at apart =
+    ap (λ l. w ∷ l) (removed q ws i (omega arith) at (λ j k d l m. apart (suc j) (suc k) d (omega arith) (omega arith)))
+    ∙ sym (ap (λ b. cond (not b) (w ∷ filter (other q) ws) (filter (other q) ws)) (ne_eqb w.set_point q (λ e. apart 0 (suc i) w (omega arith) within (e ∙ sym (at w)))))
+
+pub removed_is : (q : ℕ) (ws : List Wait) (i : ℕ) → position (for_it q) ws ≡ Some i → Apart ws → remove ws i ≡ filter (other q) ws
+removed_is q ws i found apart =
+    let at = λ (d : Wait). position-Some (for_it q) ws i d found in
+    removed q ws i (at (record { set_point = 0 })).0 (λ d. eqb-true (get_or ws i d).set_point q (at d).1) apart

@@ -1,7 +1,12 @@
-ghost use Rattle.std.specs.Prelude.{◌≡◌, ◌≤◌, length};
+#![tactic(auto, using(std::proofs::lemmas::Bool::Decides::nat_tests), unfolding(crate::specs::Listed::listed))]
+
+ghost use Rattle.std.specs.Prelude.{◌≤◌, length};
+ghost use Rattle.bounded.specs.Items.{items};
 ghost use Rattle.ledger.specs.Entries.{Subjects};
 
 use crate::entry::Entry;
+use crate::limits::MOST_SET_POINTS;
+use bounded::bounded::Bounded;
 
 mod entering;
 mod keeping;
@@ -10,7 +15,8 @@ mod keeping;
 #[derive(Clone, Copy)]
 pub struct Ledger {
     n: usize,
-    count: usize,
-    entries: [Entry; 48],
-    ghost sound: { (n ≤ 48) × (count ≤ n) × (length entries ≡ 48) × Subjects n count entries },
+    entries: Bounded<Entry, MOST_SET_POINTS>,
+    ghost few: { n ≤ 48 },
+    ghost held: { length (items entries) ≤ n },
+    ghost subjects: { Subjects n (items entries) },
 }

@@ -2,6 +2,7 @@
 #![tactic(auto)]
 
 pub mod entry;
+pub mod fault;
 pub mod ledger;
 pub mod limits;
 pub mod marks;

@@ -1,4 +1,7 @@
-ghost use Rattle.std.specs.Prelude.{◌≡◌, ◌≤◌, length};
+#![tactic(auto, using(std::proofs::lemmas::Bool::Decides::nat_tests), unfolding(crate::specs::Marked::marked))]
+
+use crate::limits::MOST_TRIALS;
+use bounded::bounded::Bounded;
 
 mod asking;
 mod stacking;
@@ -6,7 +9,5 @@ mod stacking;
 // How many lines were held when each open trial was opened. At most eight trials are open.
 #[derive(Clone, Copy)]
 pub struct Marks {
-    depth: usize,
-    counts: [usize; 8],
-    ghost sound: { (depth ≤ 8) × (length counts ≡ 8) },
+    counts: Bounded<usize, MOST_TRIALS>,
 }

@@ -1,7 +1,11 @@
-ghost use Rattle.std.specs.Prelude.{◌≡◌, ◌≤◌, length};
+#![tactic(auto, using(std::proofs::lemmas::Bool::Decides::nat_tests), unfolding(crate::specs::Waiting::waiting))]
+
+ghost use Rattle.bounded.specs.Items.{items};
 ghost use Rattle.ledger.specs.Apart.{Points, Apart};
 
+use crate::limits::MOST_SET_POINTS;
 use crate::wait::Wait;
+use bounded::bounded::Bounded;
 
 mod asking;
 mod placing;
@@ -9,7 +13,7 @@ mod placing;
 // The waits in the order they were placed, the oldest first. No set point is waited for twice, so 48 places do.
 #[derive(Clone, Copy)]
 pub struct Waits {
-    count: usize,
-    table: [Wait; 48],
-    ghost sound: { (count ≤ 48) × (length table ≡ 48) × Points count table × Apart count table },
+    waits: Bounded<Wait, MOST_SET_POINTS>,
+    ghost points: { Points (items waits) },
+    ghost apart: { Apart (items waits) },
 }

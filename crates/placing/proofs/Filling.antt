@@ -1,8 +1,9 @@
 -- The numbers of a line, written one after another.
-use Rattle.std.proofs.Common.{◌≡◌, ℕ, zero, suc, ◌+◌, ◌<◌, List, [], ◌∷◌, ◌++◌, length, get_or, drop, set, ℤ, pos, sym, refl, ap, ◌∙◌, append_assoc, add-zero, add-one, arith}
-use Rattle.std.proofs.lemmas.List.{drop_more, set_at}
+use Rattle.std.proofs.Common.{◌≡◌, ℕ, zero, suc, ◌+◌, ◌<◌, ◌≤◌, List, [], ◌∷◌, ◌++◌, length, get_or, take, drop, set, ℤ, pos, Some, None, Option, MatchOption, Bor, append-nil, sym, refl, ap, ◌∙◌, append_assoc, add-zero, add-one, arith}
+use Rattle.std.proofs.lemmas.List.{drop_more, drop_all, length-take-le, set_at}
+use Rattle.std.specs.Option.{option_map_or, option_copied}
 use Rattle.reading.specs.declared.term.Term.{Term}
-use Rattle.placing.specs.Numbers.{coefficient, coefficients}
+use Rattle.placing.specs.Numbers.{with_sign, coefficient, coefficients}
 
 pub length_coefficients : (ts : List Term) (q n : ℕ) → length (coefficients ts q n) ≡ n
 length_coefficients ts q zero = refl
@@ -25,3 +26,17 @@ module _ (ts : List Term) (d₀ d : List ℤ) (i : ℕ) (z : ℤ) (h : i < lengt
       let swap : i + 1 ≡ 1 + i = omega arith in
       put ∙ sym (append_assoc (coefficients ts 1 i) (z ∷ []) (drop (i + 1) d₀))
       ∙ ap (λ l. l ++ drop (i + 1) d₀) (ap (λ v. coefficients ts 1 i ++ (v ∷ [])) (g ∙ ap (coefficient ts) swap) ∙ sym (last_on ts 1 i) ∙ ap (coefficients ts 1) (sym (add-one i)))
+
+-- the constant after n coefficients
+pub finished : (ts : List Term) (d₀ x : List ℤ) (n i : ℕ) (z : ℤ) → n < length d₀ → length (take n d₀) ≤ i → i ≤ length (take n d₀) →
+    x ≡ coefficients ts 1 i ++ drop i (take n d₀) → set (x ++ drop n d₀) n z ≡ coefficients ts 1 n ++ (z ∷ drop (n + 1) d₀)
+finished ts d₀ x n i z h a b e =
+    let m : i ≡ n = omega (arith, length-take-le n d₀ (omega arith)) in
+    let none : drop i (take n d₀) ≡ [] = drop_all i (take n d₀) a in
+    put ts d₀ (x ++ drop n d₀) n z h (rw (e, none, append-nil, m))
+
+-- the value of the first term, or 0
+pub mapped : (o : Option (Bor Term)) (r : ℤ) (P : Bor Term → Type 0) → MatchOption o (r ≡ pos 0) P → ((x : Bor Term) → P x → r ≡ with_sign x.now.negative x.now.coefficient) →
+    r ≡ option_map_or (λ t. with_sign t.negative t.coefficient) (option_copied o) (pos 0)
+mapped None r P m f = m
+mapped (Some x) r P m f = f x m

@@ -1,4 +1,5 @@
 pub mod Answering
+pub mod Before
 pub mod Digits
 pub mod Filling
 pub mod Firsts

@@ -1,5 +1,5 @@
 -- What a fault of the text tells.
-use Rattle.std.specs.Prelude.{ℕ}
+use Rattle.std.specs.Prelude.{ℕ, None, Option, unwrap_or}
 use Rattle.exact.specs.declared.report.Layer.TheVariants as layer
 use Rattle.exact.specs.declared.report.Report.{Report}
 use Rattle.elimination.specs.declared.fault.SheetFault.{SheetFault}
@@ -17,13 +17,13 @@ abbrev in_text : ℕ → ℕ → Report
 in_text number place = record { number = number; layer = layer.Text; place = place }
 
 -- a number outside its limits is at a column of the text; else the sheet's place stands
-abbrev pub sheet_told : SheetFault → ℕ → Report
+abbrev pub sheet_told : SheetFault → Option ℕ → Report
 sheet_told sheet.Size column = sheet_report sheet.Size
 sheet_told sheet.SetPoint column = sheet_report sheet.SetPoint
 sheet_told sheet.Length column = sheet_report sheet.Length
 sheet_told sheet.Room column = sheet_report sheet.Room
 sheet_told sheet.Label column = sheet_report sheet.Label
-sheet_told (sheet.Limit position) column = record { number = 20; layer = layer.Sheet; place = column }
+sheet_told (sheet.Limit position) column = record { number = 20; layer = layer.Sheet; place = unwrap_or column 0 }
 sheet_told (sheet.Clash count) column = sheet_report (sheet.Clash count)
 sheet_told (sheet.Numbers f) column = sheet_report (sheet.Numbers f)
 
@@ -41,7 +41,7 @@ abbrev pub form_raised : FormFault → TextFault
 form_raised f = Form f.column
 
 abbrev pub sheet_raised : SheetFault → TextFault
-sheet_raised f = Sheet f 0
+sheet_raised f = Sheet f None
 
 abbrev pub heading_raised : HeadingFault → TextFault
 heading_raised heading.Form = Heading

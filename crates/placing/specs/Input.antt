@@ -1,5 +1,5 @@
 -- How an input begins.
-use Rattle.std.specs.Prelude.{◌≡◌, ℕ, ◌+◌, ◌<◌, ◌≤◌, List, [], ◌∷◌, length, Ok, Err, Result}
+use Rattle.std.specs.Prelude.{◌≡◌, ℕ, ◌+◌, ◌<◌, ◌≤◌, List, [], ◌∷◌, length, None, Ok, Err, Result}
 use Rattle.elimination.specs.declared.fault.SheetFault.TheVariants as sheet
 use Rattle.cutting.specs.declared.heading.Heading as head
 use Rattle.cutting.specs.declared.heading.HeadingFault.TheVariants as heading
@@ -36,7 +36,7 @@ Unopened l l' Heading = FirstTaken l l' × Headed (first_line (left l)) (Err hea
 Unopened l l' (OutsideSetPoint c) = ⊥
 Unopened l l' (TwiceSetPoint c) = ⊥
 Unopened l l' TooLong = (16384 < length l.rest.now) × (left l' ≡ left l) × (l'.label ≡ l.label)
-Unopened l l' (Sheet f c) = FirstTaken l l' × Headed (first_line (left l)) (Err heading.Size) × (f ≡ sheet.Size) × (c ≡ 0)
+Unopened l l' (Sheet f c) = FirstTaken l l' × Headed (first_line (left l)) (Err heading.Size) × (f ≡ sheet.Size) × (c ≡ None)
 
 abbrev pub Opened : Lines → Lines → Result head.Heading TextFault → Type 0
 Opened l l' (Ok h) = FirstTaken l l' × Headed (first_line (left l)) (Ok h)

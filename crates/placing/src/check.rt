@@ -5,30 +5,24 @@ ghost use Rattle.placing.specs.Terms.{Checked, StoodBefore};
 use crate::fault::TextFault;
 use reading::term::Term;
 
-// Whether one of the terms before `end` has this number.
-fn stood_before(terms: &[Term], end: usize, number: u32) -> bool
-    requires { end ≤ length terms.now }
-    ensures found { result ≡ true → StoodBefore terms.now end number }
-    ensures absent { result ≡ false → StoodBefore terms.now end number → ⊥ }
+// Whether one of the terms before has this number.
+fn stood_before(before: &[Term], number: u32) -> bool
+    ensures found { result ≡ true → StoodBefore before.now (length before.now) number }
+    ensures absent { result ≡ false → StoodBefore before.now (length before.now) number → ⊥ }
 {
-    for k in 0..end {
-        if terms[k].number == number {
-            return true;
-        }
-    }
-    false
+    before.iter().any(|t| t.number == number)
 }
 
 // Refuses the leftmost term whose set point is none of the n, or stood before.
+#[tactic(auto, using(crate::proofs::Before::stood))]
 pub(crate) fn check_terms(terms: &[Term], n: usize) -> Result<(), TextFault>
     ensures { Checked terms.now n result }
 {
-    for k in 0..terms.len() {
-        let term = terms[k];
-        if term.number < 1 || term.number as usize > n {
+    for (k, term) in terms.iter().enumerate() {
+        if !(1..=n).contains(&(term.number as usize)) {
             return Err(TextFault::OutsideSetPoint { column: term.place });
         }
-        if stood_before(terms, k, term.number) {
+        if stood_before(&terms[..k], term.number) {
             return Err(TextFault::TwiceSetPoint { column: term.place });
         }
     }

@@ -15,8 +15,6 @@ pub fn open_input(input: &mut Lines<'_>) -> Result<Heading, TextFault>
     if input.rest.len() > MOST_BYTES {
         return Err(TextFault::TooLong);
     }
-    match input.take_line() {
-        Some(line) => Ok(read_heading(line)?),
-        None => Err(TextFault::Heading),
-    }
+    let line = input.take_line().ok_or(TextFault::Heading)?;
+    Ok(read_heading(line)?)
 }

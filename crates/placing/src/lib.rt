@@ -5,6 +5,7 @@ mod check;
 pub mod column;
 pub mod fault;
 mod fill;
+mod first;
 pub mod input;
 pub mod numbers;
 pub mod raise;

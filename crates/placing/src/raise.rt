@@ -1,5 +1,5 @@
 ghost use Rattle.std.specs.Prelude.{◌≡◌};
-ghost use Rattle.placing.specs.Faults.{text_report, form_raised, heading_raised, print_raised, sheet_raised, sheet_told};
+ghost use Rattle.placing.specs.Faults.{text_report, form_raised, heading_raised, print_raised, sheet_raised};
 
 use crate::fault::TextFault;
 use cutting::heading::HeadingFault;
@@ -43,41 +43,40 @@ impl From<SheetFault> for TextFault {
     ghost from_gives = { λ x r. r ≡ sheet_raised x };
 
     fn from(fault: SheetFault) -> TextFault {
-        TextFault::Sheet { fault, column: 0 }
+        TextFault::Sheet {
+            fault,
+            column: None,
+        }
     }
 }
 
-impl TextFault {
-    pub fn report(self) -> Report
-        ensures { result ≡ text_report self }
-    {
-        let (number, place) = match self {
+impl From<TextFault> for Report {
+    ghost from_gives = { λ x r. r ≡ text_report x };
+
+    fn from(fault: TextFault) -> Report {
+        let (number, place) = match fault {
             TextFault::Room => (4, 0),
             TextFault::Form { column } => (22, column),
             TextFault::Heading => (22, 0),
             TextFault::OutsideSetPoint { column } => (23, column),
             TextFault::TwiceSetPoint { column } => (24, column),
             TextFault::TooLong => (26, 0),
-            TextFault::Sheet { fault, column } => return sheet_report(fault, column),
+            // A number outside its limits is told by its column in the text, and no longer by its position.
+            TextFault::Sheet {
+                fault: limit @ SheetFault::Limit { .. },
+                column,
+            } => {
+                return Report {
+                    place: column.unwrap_or(0),
+                    ..Report::from(limit)
+                };
+            }
+            TextFault::Sheet { fault, .. } => return Report::from(fault),
         };
         Report {
             number,
             layer: Layer::Text,
             place,
         }
-    }
-}
-
-// A number outside its limits is told by its column in the text, and no longer by its position.
-fn sheet_report(fault: SheetFault, column: usize) -> Report
-    ensures { result ≡ sheet_told fault column }
-{
-    let report = fault.report();
-    match fault {
-        SheetFault::Limit { position: _ } => Report {
-            place: column,
-            ..report
-        },
-        _ => report,
     }
 }

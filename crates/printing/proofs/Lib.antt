@@ -1,4 +1,1 @@
-pub mod Number
 pub mod Over
-pub mod Rowing
-pub mod Texts

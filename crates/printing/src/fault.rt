@@ -10,11 +10,11 @@ pub enum PrintFault {
     Room,
 }
 
-impl PrintFault {
-    pub fn report(self) -> Report
-        ensures { result ≡ print_report self }
-    {
-        match self {
+impl From<PrintFault> for Report {
+    ghost from_gives = { λ x r. r ≡ print_report x };
+
+    fn from(fault: PrintFault) -> Report {
+        match fault {
             PrintFault::Room => Report {
                 number: 4,
                 layer: Layer::Text,

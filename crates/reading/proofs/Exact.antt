@@ -1,33 +1,31 @@
 -- The reader's steps accept just the lines of the form.
-use Rattle.std.proofs.Common.{◌≡◌, ℕ, zero, suc, ◌+◌, ◌*◌, Bool, true, false, cond, ltb, ◌⊎◌, List, [], ◌∷◌, ◌++◌, map, sym, refl, ap, subst, inl, inr, arith, ltb-true, lt-ltb}
+use Rattle.std.proofs.Common.{◌≡◌, ℕ, zero, suc, ◌+◌, Bool, true, false, cond, ltb, ◌⊎◌, Option, None, Some, List, [], ◌∷◌, ◌++◌, map, sym, refl, ap, inl, inr, arith, ltb-true, lt-ltb}
 use Rattle.reading.specs.declared.mark.Mark.{Mark}
 use Rattle.reading.specs.declared.mark.Mark.TheVariants.{Space, Digit, SetPoint, Plus, Minus, Equals, Other}
 use Rattle.reading.specs.declared.term.Term.{Term}
-use Rattle.reading.specs.declared.stage.Figure.{Figure}
+use Rattle.reading.specs.declared.figure.Figure.{Figure}
 use Rattle.reading.specs.declared.stage.Stage.{Stage}
 use Rattle.reading.specs.declared.stage.Stage.TheVariants.{Opening, Signed, Coefficient, Named, Number, Right, Negated, Constant}
 use Rattle.reading.specs.declared.stage.Move.{Move}
-use Rattle.reading.specs.declared.stage.Move.TheVariants.{Go, Ends, Stop}
 use Rattle.reading.specs.Form.{Meaning, Form, gap, digits, integer, finish, perhaps_minus, set_point, term, constant, more}
 use Rattle.reading.specs.Marks.{mark}
-use Rattle.reading.specs.Steps.{longer, named, move, Outcome, means, stops, final, onward, reading}
+use Rattle.reading.specs.Steps.{longer, named, go, with_ended, move, Outcome, means, final, onward, reading}
 
 -- what is left of a line at a stage
 abbrev pub Rest : Meaning → Stage → ℕ → List Term → List Mark → Type 0
 Rest m Opening col done t = (n : ℕ) × gap (perhaps_minus (λ s. term (more m n) s done)) col t
 Rest m (Signed s) col done t = (n : ℕ) × gap (term (more m n) s done) col t
-Rest m (Coefficient s f) col done t = (n : ℕ) × digits (λ v. gap (set_point (more m n) s v f.start done)) f.count f.value col t
+Rest m (Coefficient s f) col done t = (n : ℕ) × digits (λ v. gap (set_point (more m n) s v (Some f.start) done)) f.count f.value col t
 Rest m (Named x) col done t = (n : ℕ) × integer (λ k. gap (more m n (done ++ named x k ∷ []))) col t
-Rest m (Number x k) col done t = (n : ℕ) × digits (λ v. gap (more m n (done ++ named x v ∷ []))) k x.number col t
+Rest m (Number x f) col done t = (n : ℕ) × digits (λ v. gap (more m n (done ++ named x v ∷ []))) f.count f.value col t
 Rest m Right col done t = gap (perhaps_minus (constant m done)) col t
 Rest m Negated col done t = gap (constant m done true) col t
 Rest m (Constant s f) col done t = digits (λ v. gap (finish (m ≡ record { terms = done; negative = s; constant = v; start = f.start }))) f.count f.value col t
 
 -- and after a move
-abbrev pub After : Meaning → Move → ℕ → List Term → List Mark → Type 0
-After m (Go s) col done t = Rest m s col done t
-After m (Ends x s) col done t = Rest m s col (done ++ x ∷ []) t
-After m Stop col done t = ⊥
+abbrev pub After : Meaning → Option Move → ℕ → List Term → List Mark → Type 0
+After m None col done t = ⊥
+After m (Some mv) col done t = Rest m mv.next col (with_ended mv.ended done) t
 
 -- no digit may follow seven
 closed : (K : ℕ → Form) (k n col : ℕ) (t : List Mark) → K n col t → digits K k n col t
@@ -40,63 +38,57 @@ opened K n col (x ∷ t) (inl h) = h
 opened K n col (x ∷ t) (inr q) = absurd (omega (arith, q.2))
 
 module _ (m : Meaning) where
-  at : (s : Stage) (col : ℕ) (done : List Term) (t : List Mark) {x y : Mark} → x ≡ y → After m (move s col y) (col + 1) done t → After m (move s col x) (col + 1) done t
-  at s col done t e g = subst (λ z. After m (move s col z) (col + 1) done t) (sym e) g
-
-  test : (b : Bool) (s : Stage) (col : ℕ) (done : List Term) (t : List Mark) → b ≡ true → Rest m s col done t → After m (cond b (Go s) Stop) col done t
-  test b s col done t e g = subst (λ c. After m (cond c (Go s) Stop) col done t) (sym e) g
-
-  passed : (b : Bool) (s : Stage) (col : ℕ) (done : List Term) (t : List Mark) → After m (cond b (Go s) Stop) col done t → (b ≡ true) × Rest m s col done t
+  passed : (b : Bool) (s : Stage) (col : ℕ) (done : List Term) (t : List Mark) → After m (cond b (go s) None) col done t → (b ≡ true) × Rest m s col done t
   passed true s col done t g = (refl, g)
   passed false s col done t g = absurd g
 
   module _ (col : ℕ) (done : List Term) (x : Mark) (t : List Mark) where
     to_opening : (n : ℕ) → gap (perhaps_minus (λ s. term (more m n) s done)) col (x ∷ t) → After m (move Opening col x) (col + 1) done t
-    to_opening n (inl (inl (inl p))) = at Opening col done t p.0 (n, p.1)
-    to_opening n (inl (inl (inr p))) = at Opening col done t p.1 (n, p.2)
-    to_opening n (inl (inr p)) = at Opening col done t p.0 (n, p.1)
-    to_opening n (inr p) = at Opening col done t p.0 (n, p.1)
+    to_opening n (inl (inl (inl p))) = rw p.0 (n, p.1)
+    to_opening n (inl (inl (inr p))) = rw p.1 (n, p.2)
+    to_opening n (inl (inr p)) = rw p.0 (n, p.1)
+    to_opening n (inr p) = rw p.0 (n, p.1)
 
     to_signed : (s : Bool) (n : ℕ) → gap (term (more m n) s done) col (x ∷ t) → After m (move (Signed s) col x) (col + 1) done t
-    to_signed s n (inl (inl p)) = at (Signed s) col done t p.0 (n, p.1)
-    to_signed s n (inl (inr p)) = at (Signed s) col done t p.1 (n, p.2)
-    to_signed s n (inr p) = at (Signed s) col done t p.0 (n, p.1)
+    to_signed s n (inl (inl p)) = rw p.0 (n, p.1)
+    to_signed s n (inl (inr p)) = rw p.1 (n, p.2)
+    to_signed s n (inr p) = rw p.0 (n, p.1)
 
-    to_coefficient : (s : Bool) (f : Figure) (n : ℕ) → digits (λ v. gap (set_point (more m n) s v f.start done)) f.count f.value col (x ∷ t) → After m (move (Coefficient s f) col x) (col + 1) done t
-    to_coefficient s f n (inl (inl p)) = at (Coefficient s f) col done t p.0 (n, p.1)
-    to_coefficient s f n (inl (inr p)) = at (Coefficient s f) col done t p.0 (n, closed (λ v. gap (set_point (more m n) s v f.start done)) 7 f.value (col + 1) t p.1)
-    to_coefficient s f n (inr p) = at (Coefficient s f) col done t p.1 (test (ltb f.count 7) (Coefficient s (longer f p.0)) (col + 1) done t (lt-ltb f.count 7 p.2) (n, p.3))
+    to_coefficient : (s : Bool) (f : Figure) (n : ℕ) → digits (λ v. gap (set_point (more m n) s v (Some f.start) done)) f.count f.value col (x ∷ t) → After m (move (Coefficient s f) col x) (col + 1) done t
+    to_coefficient s f n (inl (inl p)) = rw p.0 (n, p.1)
+    to_coefficient s f n (inl (inr p)) = rw p.0 (n, closed (λ v. gap (set_point (more m n) s v (Some f.start) done)) 7 f.value (col + 1) t p.1)
+    to_coefficient s f n (inr p) = rw p.1 (rw (lt-ltb f.count 7 p.2) (n, p.3))
 
     to_named : (y : Term) (n : ℕ) → integer (λ k. gap (more m n (done ++ named y k ∷ []))) col (x ∷ t) → After m (move (Named y) col x) (col + 1) done t
-    to_named y n p = at (Named y) col done t p.1 (n, p.2)
+    to_named y n p = rw p.1 (n, p.2)
 
-    to_number : (y : Term) (k n : ℕ) → digits (λ v. gap (more m n (done ++ named y v ∷ []))) k y.number col (x ∷ t) → After m (move (Number y k) col x) (col + 1) done t
-    to_number y k zero (inl (inl p)) = at (Number y k) col done t p.0 p.1
-    to_number y k (suc n) (inl (inl (inl p))) = at (Number y k) col done t p.0 (n, p.1)
-    to_number y k (suc n) (inl (inl (inr p))) = at (Number y k) col done t p.0 (n, p.1)
-    to_number y k n (inl (inr p)) = at (Number y k) col done t p.0 (n, closed (λ v. gap (more m n (done ++ named y v ∷ []))) 7 y.number (col + 1) t p.1)
-    to_number y k n (inr p) = at (Number y k) col done t p.1 (test (ltb k 7) (Number (named y (10 * y.number + p.0)) (k + 1)) (col + 1) done t (lt-ltb k 7 p.2) (n, p.3))
+    to_number : (y : Term) (f : Figure) (n : ℕ) → digits (λ v. gap (more m n (done ++ named y v ∷ []))) f.count f.value col (x ∷ t) → After m (move (Number y f) col x) (col + 1) done t
+    to_number y f zero (inl (inl p)) = rw p.0 p.1
+    to_number y f (suc n) (inl (inl (inl p))) = rw p.0 (n, p.1)
+    to_number y f (suc n) (inl (inl (inr p))) = rw p.0 (n, p.1)
+    to_number y f n (inl (inr p)) = rw p.0 (n, closed (λ v. gap (more m n (done ++ named y v ∷ []))) 7 f.value (col + 1) t p.1)
+    to_number y f n (inr p) = rw p.1 (rw (lt-ltb f.count 7 p.2) (n, p.3))
 
     to_right : gap (perhaps_minus (constant m done)) col (x ∷ t) → After m (move Right col x) (col + 1) done t
-    to_right (inl (inl p)) = at Right col done t p.1 p.2
-    to_right (inl (inr p)) = at Right col done t p.0 p.1
-    to_right (inr p) = at Right col done t p.0 p.1
+    to_right (inl (inl p)) = rw p.1 p.2
+    to_right (inl (inr p)) = rw p.0 p.1
+    to_right (inr p) = rw p.0 p.1
 
     to_negated : gap (constant m done true) col (x ∷ t) → After m (move Negated col x) (col + 1) done t
-    to_negated (inl p) = at Negated col done t p.1 p.2
-    to_negated (inr p) = at Negated col done t p.0 p.1
+    to_negated (inl p) = rw p.1 p.2
+    to_negated (inr p) = rw p.0 p.1
 
     to_constant : (s : Bool) (f : Figure) → Rest m (Constant s f) col done (x ∷ t) → After m (move (Constant s f) col x) (col + 1) done t
     to_constant s f (inl (inl p)) = absurd p
-    to_constant s f (inl (inr p)) = at (Constant s f) col done t p.0 (closed (λ v. gap (finish (m ≡ record { terms = done; negative = s; constant = v; start = f.start }))) 7 f.value (col + 1) t p.1)
-    to_constant s f (inr p) = at (Constant s f) col done t p.1 (test (ltb f.count 7) (Constant s (longer f p.0)) (col + 1) done t (lt-ltb f.count 7 p.2) p.3)
+    to_constant s f (inl (inr p)) = rw p.0 (closed (λ v. gap (finish (m ≡ record { terms = done; negative = s; constant = v; start = f.start }))) 7 f.value (col + 1) t p.1)
+    to_constant s f (inr p) = rw p.1 (rw (lt-ltb f.count 7 p.2) p.3)
 
     pub to : (s : Stage) → Rest m s col done (x ∷ t) → After m (move s col x) (col + 1) done t
     to Opening p = to_opening p.0 p.1
     to (Signed s) p = to_signed s p.0 p.1
     to (Coefficient s f) p = to_coefficient s f p.0 p.1
     to (Named y) p = to_named y p.0 p.1
-    to (Number y k) p = to_number y k p.0 p.1
+    to (Number y f) p = to_number y f p.0 p.1
     to Right p = to_right p
     to Negated p = to_negated p
     to (Constant s f) p = to_constant s f p
@@ -120,7 +112,7 @@ module _ (m : Meaning) where
     from_signed s Other g = absurd g
 
     from_coefficient : (s : Bool) (f : Figure) (y : Mark) → After m (move (Coefficient s f) col y) (col + 1) done t → Rest m (Coefficient s f) col done (y ∷ t)
-    from_coefficient s f Space g = (g.0, inl (inr (refl, opened (λ v. gap (set_point (more m g.0) s v f.start done)) f.value (col + 1) t g.1)))
+    from_coefficient s f Space g = (g.0, inl (inr (refl, opened (λ v. gap (set_point (more m g.0) s v (Some f.start) done)) f.value (col + 1) t g.1)))
     from_coefficient s f (Digit d) g =
         let p = passed (ltb f.count 7) (Coefficient s (longer f d)) (col + 1) done t g in
         (p.1.0, inr (d, refl, ltb-true f.count 7 p.0, p.1.1))
@@ -139,16 +131,16 @@ module _ (m : Meaning) where
     from_named z Equals g = absurd g
     from_named z Other g = absurd g
 
-    from_number : (z : Term) (k : ℕ) (y : Mark) → After m (move (Number z k) col y) (col + 1) done t → Rest m (Number z k) col done (y ∷ t)
-    from_number z k Space g = (g.0, inl (inr (refl, opened (λ v. gap (more m g.0 (done ++ named z v ∷ []))) z.number (col + 1) t g.1)))
-    from_number z k (Digit d) g =
-        let p = passed (ltb k 7) (Number (named z (10 * z.number + d)) (k + 1)) (col + 1) done t g in
-        (p.1.0, inr (d, refl, ltb-true k 7 p.0, p.1.1))
-    from_number z k SetPoint g = absurd g
-    from_number z k Plus g = (suc g.0, inl (inl (inl (refl, g.1))))
-    from_number z k Minus g = (suc g.0, inl (inl (inr (refl, g.1))))
-    from_number z k Equals g = (zero, inl (inl (refl, g)))
-    from_number z k Other g = absurd g
+    from_number : (z : Term) (f : Figure) (y : Mark) → After m (move (Number z f) col y) (col + 1) done t → Rest m (Number z f) col done (y ∷ t)
+    from_number z f Space g = (g.0, inl (inr (refl, opened (λ v. gap (more m g.0 (done ++ named z v ∷ []))) f.value (col + 1) t g.1)))
+    from_number z f (Digit d) g =
+        let p = passed (ltb f.count 7) (Number z (longer f d)) (col + 1) done t g in
+        (p.1.0, inr (d, refl, ltb-true f.count 7 p.0, p.1.1))
+    from_number z f SetPoint g = absurd g
+    from_number z f Plus g = (suc g.0, inl (inl (inl (refl, g.1))))
+    from_number z f Minus g = (suc g.0, inl (inl (inr (refl, g.1))))
+    from_number z f Equals g = (zero, inl (inl (refl, g)))
+    from_number z f Other g = absurd g
 
     from_right : (y : Mark) → After m (move Right col y) (col + 1) done t → Rest m Right col done (y ∷ t)
     from_right Space g = inr (refl, g)
@@ -184,7 +176,7 @@ module _ (m : Meaning) where
     from (Signed s) g = from_signed s x g
     from (Coefficient s f) g = from_coefficient s f x g
     from (Named y) g = from_named y x g
-    from (Number y k) g = from_number y k x g
+    from (Number y f) g = from_number y f x g
     from Right g = from_right x g
     from Negated g = from_negated x g
     from (Constant s f) g = from_constant s f x g
@@ -209,7 +201,7 @@ module _ (m : Meaning) where
       no_signed (inr h) = h
   ended (Coefficient s f) col done p = absurd p.1
   ended (Named y) col done p = absurd p.1
-  ended (Number y k) col done p = absurd (no_more p.0 col (done ++ y ∷ []) p.1)
+  ended (Number y f) col done p = absurd (no_more p.0 col (done ++ named y f.value ∷ []) p.1)
   ended Right col done p = absurd (no_right p)
     where
       no_right : ⊥ ⊎ ⊥ → ⊥
@@ -218,33 +210,28 @@ module _ (m : Meaning) where
   ended Negated col done p = absurd p
   ended (Constant s f) col done p = ap means (sym p)
 
-  pub unstopped : {c : ℕ} → stops c ≡ means m → ⊥
-  unstopped e = let z : ◌≡◌ {A = ℕ} 0 1 = cc in omega arith
-
   end : (s : Stage) (col : ℕ) (done : List Term) → final s col done ≡ means m → Rest m s col done []
-  end Opening col done e = absurd (unstopped e)
-  end (Signed s) col done e = absurd (unstopped e)
-  end (Coefficient s f) col done e = absurd (unstopped e)
-  end (Named y) col done e = absurd (unstopped e)
-  end (Number y k) col done e = absurd (unstopped e)
-  end Right col done e = absurd (unstopped e)
-  end Negated col done e = absurd (unstopped e)
+  end Opening col done e = cc
+  end (Signed s) col done e = cc
+  end (Coefficient s f) col done e = cc
+  end (Named y) col done e = cc
+  end (Number y f) col done e = cc
+  end Right col done e = cc
+  end Negated col done e = cc
   end (Constant s f) col done e = cc
 
   -- a reading that means m is of a text that means m, and the other way round
-  complete_on : (mv : Move) (col : ℕ) (done : List Term) (t : List Mark) (k : Stage → List Term → Outcome) → ((s : Stage) (d : List Term) → Rest m s (col + 1) d t → k s d ≡ means m) → After m mv (col + 1) done t → onward mv col done k ≡ means m
-  complete_on (Go s) col done t k h g = h s done g
-  complete_on (Ends y s) col done t k h g = h s (done ++ y ∷ []) g
-  complete_on Stop col done t k h g = absurd g
+  complete_on : (mv : Option Move) (col : ℕ) (done : List Term) (t : List Mark) (k : Stage → List Term → Outcome) → ((s : Stage) (d : List Term) → Rest m s (col + 1) d t → k s d ≡ means m) → After m mv (col + 1) done t → onward mv col done k ≡ means m
+  complete_on None col done t k h g = absurd g
+  complete_on (Some mv) col done t k h g = h mv.next (with_ended mv.ended done) g
 
   pub complete : (t : List ℕ) (s : Stage) (col : ℕ) (done : List Term) → Rest m s col done (map mark t) → reading s col done t ≡ means m
   complete [] s col done p = ended s col done p
   complete (b ∷ t) s col done p = complete_on (move s col (mark b)) col done (map mark t) _ (λ s' d q. complete t s' (col + 1) d q) (to col done (mark b) (map mark t) s p)
 
-  sound_on : (mv : Move) (col : ℕ) (done : List Term) (t : List Mark) (k : Stage → List Term → Outcome) → ((s : Stage) (d : List Term) → k s d ≡ means m → Rest m s (col + 1) d t) → onward mv col done k ≡ means m → After m mv (col + 1) done t
-  sound_on (Go s) col done t k h e = h s done e
-  sound_on (Ends y s) col done t k h e = h s (done ++ y ∷ []) e
-  sound_on Stop col done t k h e = unstopped e
+  sound_on : (mv : Option Move) (col : ℕ) (done : List Term) (t : List Mark) (k : Stage → List Term → Outcome) → ((s : Stage) (d : List Term) → k s d ≡ means m → Rest m s (col + 1) d t) → onward mv col done k ≡ means m → After m mv (col + 1) done t
+  sound_on None col done t k h e = cc
+  sound_on (Some mv) col done t k h e = h mv.next (with_ended mv.ended done) e
 
   pub sound : (t : List ℕ) (s : Stage) (col : ℕ) (done : List Term) → reading s col done t ≡ means m → Rest m s col done (map mark t)
   sound [] s col done e = end s col done e

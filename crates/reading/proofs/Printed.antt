@@ -1,5 +1,5 @@
 -- A printed whole number is read back.
-use Rattle.std.proofs.Common.{◌≡◌, ℕ, suc, ◌+◌, ◌-◌, ◌*◌, ◌^◌, ◌<◌, ◌≤◌, Bool, true, false, List, [], ◌∷◌, ◌++◌, map, length, ℤ, pos, negsuc, nat_abs, codes, decimal, sym, refl, ap, subst, inl, inr, add-zero, arith, rules, ne_eqb, le-leb}
+use Rattle.std.proofs.Common.{◌≡◌, ℕ, suc, ◌+◌, ◌-◌, ◌*◌, ◌^◌, ◌<◌, ◌≤◌, Bool, true, false, None, List, [], ◌∷◌, ◌++◌, map, length, ℤ, pos, negsuc, nat_abs, codes, decimal, sym, refl, ap, subst, inl, inr, add-zero, arith, rules, ne_eqb, le-leb}
 use Rattle.std.specs.Fmt.{signed_decimal}
 use Rattle.std.specs.Str.Parse.{AllDigits}
 use Rattle.std.proofs.lemmas.Str.Parse.{IsNumeralModel, tells_digits, numerals_by_fold, digit_from_value}
@@ -73,9 +73,9 @@ starts q (negsuc n) = omega arith
 
 pub reads_back : ReadsBack
 reads_back q z h k =
-    let done : List Term = term_of false 1 0 1 q ∷ [] in
+    let done : List Term = term_of false 1 None 1 q ∷ [] in
     let m : Meaning = record { terms = done; negative = below_zero z; constant = nat_abs z; start = value_start q z } in
-    let K : ℕ → Form = λ v. gap (more m 0 (term_of false 1 0 1 v ∷ [])) in
+    let K : ℕ → Form = λ v. gap (more m 0 (term_of false 1 None 1 v ∷ [])) in
     let c : ℕ = 2 + length (decimal q) + 1 + 1 + 1 in
     let e = ap (λ v. record { terms = done; negative = below_zero z; constant = nat_abs z; start = v }) (starts q z) in
     let g = inr (refl, inl (refl, inr (refl, here (perhaps_minus (constant m done)) c (map mark (signed_decimal z)) (right z m done c k e)))) in

@@ -1,23 +1,22 @@
 -- The reader stops at the first column where no line goes on.
-use Rattle.std.proofs.Common.{◌≡◌, ℕ, suc, ◌+◌, ◌<◌, ◌≤◌, Bool, true, false, ◌⊎◌, List, [], ◌∷◌, ◌++◌, map, length, take, drop, sym, refl, ap, ◌∙◌, subst, inl, inr, arith}
+use Rattle.std.proofs.Common.{◌≡◌, ℕ, suc, ◌+◌, ◌<◌, ◌≤◌, Bool, true, false, ◌⊎◌, Option, None, Some, List, [], ◌∷◌, ◌++◌, map, length, take, drop, sym, refl, ap, ◌∙◌, subst, inl, inr, arith}
 use Rattle.std.proofs.lemmas.List.{take-append-drop, take-take, append_assoc}
 use Rattle.reading.specs.declared.term.Term.{Term}
-use Rattle.reading.specs.declared.stage.Figure.{Figure}
+use Rattle.reading.specs.declared.figure.Figure.{Figure}
 use Rattle.reading.specs.declared.stage.Stage.{Stage}
 use Rattle.reading.specs.declared.stage.Stage.TheVariants.{Opening, Signed, Coefficient, Named, Number, Right, Negated, Constant}
 use Rattle.reading.specs.declared.stage.Move.{Move}
-use Rattle.reading.specs.declared.stage.Move.TheVariants.{Go, Ends, Stop}
 use Rattle.reading.specs.Form.{Meaning, term_of, IsLine}
 use Rattle.reading.specs.Marks.{mark}
-use Rattle.reading.specs.Steps.{figure_of, named, move, Outcome, means, stops, final, onward, reading}
+use Rattle.reading.specs.Steps.{figure_of, named, with_ended, move, Outcome, means, stops, final, onward, reading}
 use Rattle.reading.specs.Reading.{GoesOn, Breaks, Reads}
-use Rattle.reading.proofs.Exact.{Rest, After, to, from, unstopped, complete, sound}
+use Rattle.reading.proofs.Exact.{Rest, After, to, from, complete, sound}
 
 -- some continuation from a stage, or a move, is of the form
 Goes : Stage → ℕ → List Term → List ℕ → Type 0
 Goes s col done t = (rest : List ℕ) × (m : Meaning) × Rest m s col done (map mark (t ++ rest))
 
-GoesAfter : Move → ℕ → List Term → List ℕ → Type 0
+GoesAfter : Option Move → ℕ → List Term → List ℕ → Type 0
 GoesAfter mv col done t = (rest : List ℕ) × (m : Meaning) × After m mv col done (map mark (t ++ rest))
 
 goes_from : (s : Stage) (col : ℕ) (done : List Term) (b : ℕ) (t : List ℕ) → GoesAfter (move s col (mark b)) (col + 1) done t → Goes s col done (b ∷ t)
@@ -42,21 +41,21 @@ right_on : (col : ℕ) (done : List Term) → Goes Right col done []
 unfolding Goes GoesAfter
 right_on col done = by Right col done 48 (constant_on false (figure_of 0 1 col) (col + 1) done)
 
-number_on : (y : Term) (k col : ℕ) (done : List Term) → Goes (Number y k) col done []
+number_on : (y : Term) (f : Figure) (col : ℕ) (done : List Term) → Goes (Number y f) col done []
 unfolding Goes GoesAfter
-number_on y k col done = by (Number y k) col done 61 (right_on (col + 1) (done ++ y ∷ []))
+number_on y f col done = by (Number y f) col done 61 (right_on (col + 1) (done ++ named y f.value ∷ []))
 
 named_on : (y : Term) (col : ℕ) (done : List Term) → Goes (Named y) col done []
 unfolding Goes GoesAfter
-named_on y col done = by (Named y) col done 48 (number_on (named y 0) 1 (col + 1) done)
+named_on y col done = by (Named y) col done 48 (number_on y (figure_of 0 1 col) (col + 1) done)
 
 goes : (s : Stage) (col : ℕ) (done : List Term) → Goes s col done []
 unfolding Goes GoesAfter
-goes Opening col done = by Opening col done 113 (named_on (term_of false 1 0 col 0) (col + 1) done)
-goes (Signed s) col done = by (Signed s) col done 113 (named_on (term_of s 1 0 col 0) (col + 1) done)
-goes (Coefficient s f) col done = by (Coefficient s f) col done 113 (named_on (term_of s f.value f.start col 0) (col + 1) done)
+goes Opening col done = by Opening col done 113 (named_on (term_of false 1 None col 0) (col + 1) done)
+goes (Signed s) col done = by (Signed s) col done 113 (named_on (term_of s 1 None col 0) (col + 1) done)
+goes (Coefficient s f) col done = by (Coefficient s f) col done 113 (named_on (term_of s f.value (Some f.start) col 0) (col + 1) done)
 goes (Named y) col done = named_on y col done
-goes (Number y k) col done = number_on y k col done
+goes (Number y f) col done = number_on y f col done
 goes Right col done = right_on col done
 goes Negated col done = by Negated col done 48 (constant_on true (figure_of 0 1 col) (col + 1) done)
 goes (Constant s f) col done = constant_on s f col done
@@ -69,27 +68,20 @@ record Stopped (on : List ℕ → Type 0) (col : ℕ) (t : List ℕ) (c : ℕ) :
   before : on (take place t)
   there : place < length t → on (take (suc place) t) → ⊥
 
-same_stop : {c d : ℕ} → stops c ≡ stops d → c ≡ d
-same_stop e = cc
-
-unmeant : {m : Meaning} {c : ℕ} → means m ≡ stops c → ⊥
-unmeant e = let z : ◌≡◌ {A = ℕ} 0 1 = cc in omega arith
-
 final_stop : (s : Stage) (col : ℕ) (done : List Term) (c : ℕ) → final s col done ≡ stops c → col ≡ c
-final_stop Opening col done c e = same_stop e
-final_stop (Signed s) col done c e = same_stop e
-final_stop (Coefficient s f) col done c e = same_stop e
-final_stop (Named y) col done c e = same_stop e
-final_stop (Number y k) col done c e = same_stop e
-final_stop Right col done c e = same_stop e
-final_stop Negated col done c e = same_stop e
-final_stop (Constant s f) col done c e = absurd (unmeant e)
+final_stop Opening col done c e = cc
+final_stop (Signed s) col done c e = cc
+final_stop (Coefficient s f) col done c e = cc
+final_stop (Named y) col done c e = cc
+final_stop (Number y f) col done c e = cc
+final_stop Right col done c e = cc
+final_stop Negated col done c e = cc
+final_stop (Constant s f) col done c e = cc
 
-stopped_on : (mv : Move) (col : ℕ) (done : List Term) (t : List ℕ) (c : ℕ) (k : Stage → List Term → Outcome) → ((s : Stage) (d : List Term) → k s d ≡ stops c → Stopped (Goes s (col + 1) d) (col + 1) t c) → onward mv col done k ≡ stops c → ((c ≡ col) × ((rest : List ℕ) → GoesAfter mv (col + 1) done rest → ⊥)) ⊎ Stopped (GoesAfter mv (col + 1) done) (col + 1) t c
+stopped_on : (mv : Option Move) (col : ℕ) (done : List Term) (t : List ℕ) (c : ℕ) (k : Stage → List Term → Outcome) → ((s : Stage) (d : List Term) → k s d ≡ stops c → Stopped (Goes s (col + 1) d) (col + 1) t c) → onward mv col done k ≡ stops c → ((c ≡ col) × ((rest : List ℕ) → GoesAfter mv (col + 1) done rest → ⊥)) ⊎ Stopped (GoesAfter mv (col + 1) done) (col + 1) t c
 unfolding Goes GoesAfter
-stopped_on (Go s) col done t c k h e = inr (h s done e)
-stopped_on (Ends y s) col done t c k h e = inr (h s (done ++ y ∷ []) e)
-stopped_on Stop col done t c k h e = inl (sym (same_stop e), λ rest g. g.2)
+stopped_on None col done t c k h e = inl (cc, λ rest g. g.2)
+stopped_on (Some mv) col done t c k h e = inr (h mv.next (with_ended mv.ended done) e)
 
 stopped : (t : List ℕ) (s : Stage) (col : ℕ) (done : List Term) (c : ℕ) → reading s col done t ≡ stops c → Stopped (Goes s col done) col t c
 stopped [] s col done c e = let f = final_stop s col done c e in record { place = 0; column = omega arith; within = omega arith; before = goes s col done; there = λ h. absurd (omega arith) }
@@ -125,7 +117,7 @@ told_by text (stops c) h e = let p = stopped text Opening 1 [] c e in inr (h, br
         let e₁ = p.column in
         let w = p.within in
         record {
-          no_line = λ m l. unstopped m (sym e ∙ complete m text Opening 1 [] l);
+          no_line = λ m l. let p : means m ≡ stops c = sym (complete m text Opening 1 [] l) ∙ e in cc;
           low = omega arith;
           high = omega arith;
           before = λ k h. shorter text k p.place (omega arith) p.before;

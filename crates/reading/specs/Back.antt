@@ -1,5 +1,5 @@
 -- What is printed of a settled whole number is read back.
-use Rattle.std.specs.Prelude.{ℕ, ◌+◌, ◌<◌, Bool, true, false, List, [], ◌∷◌, ◌++◌, length, ℤ, pos, negsuc, codes, decimal, unsigned_abs}
+use Rattle.std.specs.Prelude.{ℕ, ◌+◌, ◌<◌, Bool, true, false, None, List, [], ◌∷◌, ◌++◌, length, ℤ, pos, negsuc, codes, decimal, unsigned_abs}
 use Rattle.std.specs.Fmt.{signed_decimal}
 use Rattle.reading.specs.Form.{IsLine, term_of}
 
@@ -19,4 +19,4 @@ value_start q (negsuc n) = length (decimal q) + 6
 -- the row is a line: one term, 1 times the set point, and the value
 abbrev pub ReadsBack : Type 0
 ReadsBack =
-    (q : ℕ) (z : ℤ) → q < 10000000 → unsigned_abs z < 10000000 → IsLine (settled q z) (record { terms = term_of false 1 0 1 q ∷ []; negative = below_zero z; constant = unsigned_abs z; start = value_start q z })
+    (q : ℕ) (z : ℤ) → q < 10000000 → unsigned_abs z < 10000000 → IsLine (settled q z) (record { terms = term_of false 1 None 1 q ∷ []; negative = below_zero z; constant = unsigned_abs z; start = value_start q z })

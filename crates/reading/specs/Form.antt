@@ -1,5 +1,5 @@
 -- The form of a recipe line: which texts are a line, and what numbers they mean.
-use Rattle.std.specs.Prelude.{◌≡◌, ℕ, zero, suc, ◌+◌, ◌*◌, ◌<◌, Bool, true, false, ◌⊎◌, List, [], ◌∷◌, ◌++◌, map}
+use Rattle.std.specs.Prelude.{◌≡◌, ℕ, zero, suc, ◌+◌, ◌*◌, ◌<◌, Bool, true, false, ◌⊎◌, Option, None, Some, List, [], ◌∷◌, ◌++◌, map}
 use Rattle.reading.specs.declared.mark.Mark.{Mark}
 use Rattle.reading.specs.declared.mark.Mark.TheVariants.{Space, Digit, SetPoint, Plus, Minus, Equals}
 use Rattle.reading.specs.declared.term.Term.{Term}
@@ -45,18 +45,18 @@ finish P col (y ∷ t) = ⊥
 abbrev pub perhaps_minus : (Bool → Form) → Form
 perhaps_minus K col t = K false col t ⊎ one Minus (gap (K true)) col t
 
-abbrev pub term_of : Bool → ℕ → ℕ → ℕ → ℕ → Term
+abbrev pub term_of : Bool → ℕ → Option ℕ → ℕ → ℕ → Term
 term_of negative coefficient start place number =
     record { negative = negative; coefficient = coefficient; start = start; place = place; number = number }
 
 -- q and an integer end a term; K takes the terms up to here
-abbrev pub set_point : (List Term → Form) → Bool → ℕ → ℕ → List Term → Form
+abbrev pub set_point : (List Term → Form) → Bool → ℕ → Option ℕ → List Term → Form
 set_point K negative v start done col t = one SetPoint (integer (λ k. gap (K (done ++ term_of negative v start col k ∷ [])))) col t
 
 -- a term is a set point (its coefficient is then 1), or an integer, spaces and a set point
 abbrev pub term : (List Term → Form) → Bool → List Term → Form
 term K negative done col t =
-    set_point K negative 1 0 done col t ⊎ integer (λ v. gap (set_point K negative v col done)) col t
+    set_point K negative 1 None done col t ⊎ integer (λ v. gap (set_point K negative v (Some col) done)) col t
 
 -- the right side's integer
 abbrev pub constant : Meaning → List Term → Bool → Form

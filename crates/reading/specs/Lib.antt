@@ -2,6 +2,7 @@ pub mod Back
 pub mod Examples
 pub mod Form
 pub mod Marks
+pub mod Parts
 pub mod Reading
 pub mod Sound
 pub mod Steps

@@ -1,5 +1,6 @@
 -- What the reader answers of a text.
 use Rattle.std.specs.Prelude.{◌≡◌, ℕ, ◌+◌, ◌<◌, ◌≤◌, ◌⊎◌, List, ◌++◌, length, take, Ok, Err, Result}
+use Rattle.bounded.specs.Items.{items}
 use Rattle.reading.specs.declared.fault.FormFault.{FormFault}
 use Rattle.reading.specs.declared.line.Line.{Line}
 use Rattle.reading.specs.Form.{Meaning, IsLine}
@@ -24,7 +25,7 @@ Reads text (means m) = (length text ≤ 200) × IsLine text m × ((m' : Meaning)
 Reads text (stops c) = ((200 < length text) × (c ≡ 201)) ⊎ ((length text ≤ 200) × Breaks text c)
 
 abbrev pub meaning_of : Line → Meaning
-meaning_of l = record { terms = take l.count l.terms; negative = l.negative; constant = l.constant; start = l.start }
+meaning_of l = record { terms = items l.terms; negative = l.negative; constant = l.constant; start = l.start }
 
 abbrev pub told : Result Line FormFault → Outcome
 told (Ok l) = means (meaning_of l)

@@ -2,6 +2,7 @@
 #![tactic(auto)]
 
 pub mod fault;
+mod figure;
 pub mod laws;
 pub mod line;
 mod mark;

@@ -1,22 +1,19 @@
-ghost use Rattle.std.specs.Prelude.{◌≡◌, ◌<◌, ◌≤◌, length, take};
-ghost use Rattle.reading.specs.Terms.{Short, Digits};
+ghost use Rattle.std.specs.Prelude.{◌≡◌, ◌<◌, ◌≤◌};
+ghost use Rattle.bounded.specs.Items.{items};
 
 use crate::term::Term;
+use bounded::bounded::Bounded;
 
-// A line of the form. Of its places for terms, which suffice for any text of 200 bytes, the first `count` are in use.
+// A line of the form. Its places for terms suffice for any text of 200 bytes.
 #[derive(Clone, Copy)]
 pub struct Line {
-    pub terms: [Term; 200],
-    pub count: usize,
+    pub terms: Bounded<Term, 200>,
+    // The sign as read, beside a size, as in a term.
     pub negative: bool,
     pub constant: u32,
     // The column of the constant's first digit.
     pub start: usize,
-    ghost places: { length terms ≡ 200 },
-    ghost room: { count ≤ 200 },
-    // No number has more than seven digits, and a coefficient without a digit is 1.
-    ghost short: { Short terms count },
-    ghost digits: { Digits terms count },
+    // No number has more than seven digits.
     ghost small: { constant < 10000000 },
     ghost begins: { 1 ≤ start },
 }
@@ -24,8 +21,8 @@ pub struct Line {
 impl Line {
     // The terms from left to right.
     pub fn terms(&self) -> &[Term]
-        ensures { result.now ≡ take self.now.count self.now.terms }
+        ensures { result.now ≡ items self.now.terms }
     {
-        &self.terms[0..self.count]
+        self.terms.as_slice()
     }
 }

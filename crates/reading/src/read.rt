@@ -2,15 +2,17 @@ ghost use Rattle.reading.specs.Reading.{Reads, told};
 
 use crate::fault::FormFault;
 use crate::line::Line;
-use crate::mark::mark_of;
-use crate::stage::{Move, Stage};
-use crate::step::moved;
+use crate::mark::Mark;
+use crate::stage::Stage;
 use crate::term::Term;
+use bounded::bounded::Bounded;
+use std::num::NonZeroUsize;
 
+// Stands where no term does.
 const NO_TERM: Term = Term {
     negative: false,
-    coefficient: 0,
-    start: 0,
+    coefficient: 1,
+    start: None,
     place: 0,
     number: 0,
 };
@@ -23,23 +25,20 @@ pub fn read_line(text: &[u8]) -> Result<Line, FormFault>
         return Err(FormFault { column: 201 });
     }
     let mut stage = Stage::Opening;
-    let mut terms = [NO_TERM; 200];
-    let mut count = 0;
+    let mut terms = Bounded::new(NO_TERM);
     for (i, byte) in text.iter().enumerate() {
-        match moved(stage, i + 1, mark_of(*byte)) {
-            Move::Go(next) => stage = next,
-            Move::Ends(term, next) => {
-                terms[count] = term;
-                count += 1;
-                stage = next;
-            }
-            Move::Stop => return Err(FormFault { column: i + 1 }),
+        let column = NonZeroUsize::MIN.saturating_add(i);
+        let step = stage.moved(column, Mark::from(*byte)).ok_or(FormFault {
+            column: column.get(),
+        })?;
+        if let Some(term) = step.ended {
+            terms.push(term).unwrap();
         }
+        stage = step.next;
     }
     match stage {
         Stage::Constant(negative, figure) => Ok(Line {
             terms,
-            count,
             negative,
             constant: figure.value,
             start: figure.start,

@@ -1,12 +1,5 @@
+use crate::figure::Figure;
 use crate::term::Term;
-
-// An integer under way. `count` is 7 once no digit may follow.
-#[derive(Clone, Copy)]
-pub struct Figure {
-    pub value: u32,
-    pub count: u32,
-    pub start: usize,
-}
 
 // How far a line has come.
 #[derive(Clone, Copy)]
@@ -19,8 +12,8 @@ pub enum Stage {
     Coefficient(bool, Figure),
     // The q of a term, which has no number yet.
     Named(Term),
-    // So many digits of the number after q.
-    Number(Term, u32),
+    // The number after that q.
+    Number(Term, Figure),
     // The equals sign.
     Right,
     // The minus before the constant.
@@ -29,10 +22,19 @@ pub enum Stage {
     Constant(bool, Figure),
 }
 
-// What a mark does: it leads on, ends a term and leads on, or no line goes on with it.
+// Where a mark leads, and the term that it ends.
 #[derive(Clone, Copy)]
-pub enum Move {
-    Go(Stage),
-    Ends(Term, Stage),
-    Stop,
+pub struct Move {
+    pub ended: Option<Term>,
+    pub next: Stage,
+}
+
+impl From<Stage> for Move {
+    ghost use Rattle.std.specs.Prelude.{◌≡◌, None};
+
+    ghost from_gives = { λ s m. m ≡ record { ended = None; next = s } };
+
+    fn from(next: Stage) -> Move {
+        Move { ended: None, next }
+    }
 }

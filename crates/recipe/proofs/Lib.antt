@@ -1,7 +1,6 @@
 mod Clashes
 mod Labelling
 mod Lining
-mod Meant
 mod Openings
 mod Output
 mod Settled

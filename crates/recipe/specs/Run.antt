@@ -1,5 +1,5 @@
 -- What the lines of a recipe print, and what they make of the sheet.
-use Rattle.std.specs.Prelude.{◌≡◌, ℕ, zero, suc, ◌+◌, ◌⊎◌, List, [], ◌∷◌, ◌++◌, length, Ok, Err, Result}
+use Rattle.std.specs.Prelude.{◌≡◌, ℕ, zero, suc, ◌+◌, ◌⊎◌, List, [], ◌∷◌, ◌++◌, length, Some, None, Ok, Err, Option, Result}
 use Rattle.exact.specs.Kind.{Kind}
 use Rattle.elimination.specs.declared.fault.SheetFault.{SheetFault}
 use Rattle.elimination.specs.declared.record.Record.{Record}
@@ -16,8 +16,6 @@ use Rattle.placing.specs.Faults.{text_report}
 use Rattle.placing.specs.Numbers.{numbers}
 use Rattle.placing.specs.Terms.{AllGood}
 use Rattle.sheet.specs.declared.answer.Stated.{Stated}
-use Rattle.sheet.specs.declared.answer.Settled.{Settled}
-use Rattle.sheet.specs.declared.answer.Settled.TheVariants.{Value, NotSettled}
 use Rattle.sheet.specs.Contents.{Contents, verdict, stated, after}
 use Rattle.sheet.specs.Reading.{settled_answer}
 use Rattle.recipe.specs.Added.{parts_told, entries_of}
@@ -90,9 +88,9 @@ module _ {V : Type 0} (K : Kind V) where
   Tried S label text old r S' new = Refuses S text old r S' new ⊎ States S label text old r S' new
 
   -- ---- the settled set points
-  abbrev pub settled_text : (q : ℕ) → Result (Settled V) SheetFault → List ℕ
-  settled_text q (Ok (Value v)) = settled_row q (parts_told (K.tells v))
-  settled_text q (Ok NotSettled) = []
+  abbrev pub settled_text : (q : ℕ) → Result (Option V) SheetFault → List ℕ
+  settled_text q (Ok (Some v)) = settled_row q (parts_told (K.tells v))
+  settled_text q (Ok None) = []
   settled_text q (Err f) = []
 
   abbrev pub settled_one : Contents V → (q : ℕ) → List ℕ

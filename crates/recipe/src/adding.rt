@@ -1,39 +1,47 @@
-ghost use Rattle.std.specs.Prelude.{◌≡◌, ◌≤◌, length, take};
+ghost use Rattle.std.specs.Prelude.{◌≡◌, ◌≤◌, ℕ, List, length, IfOk};
+ghost use Rattle.std.specs.Fn.{FnOnceReturnsAtMut};
 ghost use Rattle.printing.specs.Rows.{held_row, follows_row, clash_row, refused_row, settled_row};
-ghost use Rattle.recipe.specs.Added.{Added, parts_told, entry_of, entries_of};
+ghost use Rattle.recipe.specs.Added.{Added, Writes, parts_told, entry_of, entries_of};
 
 use elimination::record::Record;
 use exact::report::Report;
 use exact::shown::{Parts, Shown};
 use printing::entry::Entry;
-use printing::row::{
-    MOST_ENTRIES, ROW_BYTES, clash_row, follows_row, held_row, refused_row, settled_row,
-};
-use std::alloc::AllocError;
+use printing::fault::PrintFault;
+use printing::row::{ROW_BYTES, clash_row, follows_row, held_row, refused_row, settled_row};
+use std::alloc::{AllocError, Global};
 
-// Each adds one row to the output. The buffer suffices for any row, so none is refused.
+// Adds the row that a call writes to the output. A row is written over a lent slice; this one suffices for any, so none is refused.
+fn add_row<F: FnOnce(&mut [u8]) -> Result<usize, PrintFault>>(
+    out: &mut Vec<u8>,
+    write: F,
+) -> Result<(), AllocError>
+    ghost text: { List ℕ }
+    requires callable { F.IsAlwaysCallable write }
+    requires writes { Writes (FnOnceReturnsAtMut F.FnOnce write) text }
+    ensures { Added text out.old.items out.new.items result }
+{
+    let mut row = [0; ROW_BYTES];
+    let end = write(&mut row).unwrap();
+    out.extend_from_slice(&row[..end])
+}
+
 pub(crate) fn add_held(out: &mut Vec<u8>, label: u32, place: usize) -> Result<(), AllocError>
     ensures { Added (held_row label place) out.old.items out.new.items result }
 {
-    let mut row = [0; ROW_BYTES];
-    let end = held_row(&mut row, label, place).unwrap();
-    out.extend_from_slice(&row[0..end])
+    add_row(out, |row| held_row(row, label, place))
 }
 
 pub(crate) fn add_follows(out: &mut Vec<u8>, label: u32) -> Result<(), AllocError>
     ensures { Added (follows_row label) out.old.items out.new.items result }
 {
-    let mut row = [0; ROW_BYTES];
-    let end = follows_row(&mut row, label).unwrap();
-    out.extend_from_slice(&row[0..end])
+    add_row(out, |row| follows_row(row, label))
 }
 
 pub(crate) fn add_refused(out: &mut Vec<u8>, label: u32, report: Report) -> Result<(), AllocError>
     ensures { Added (refused_row label report) out.old.items out.new.items result }
 {
-    let mut row = [0; ROW_BYTES];
-    let end = refused_row(&mut row, label, report).unwrap();
-    out.extend_from_slice(&row[0..end])
+    add_row(out, |row| refused_row(row, label, report))
 }
 
 pub(crate) fn add_settled(
@@ -43,9 +51,7 @@ pub(crate) fn add_settled(
 ) -> Result<(), AllocError>
     ensures { Added (settled_row set_point value) out.old.items out.new.items result }
 {
-    let mut row = [0; ROW_BYTES];
-    let end = settled_row(&mut row, set_point, value).unwrap();
-    out.extend_from_slice(&row[0..end])
+    add_row(out, |row| settled_row(row, set_point, value))
 }
 
 pub(crate) fn add_clash<K: Shown>(
@@ -56,27 +62,24 @@ pub(crate) fn add_clash<K: Shown>(
     requires { length evidence.now ≤ 49 }
     ensures { Added (clash_row label (entries_of K.Number.kind evidence.now)) out.old.items out.new.items result }
 {
-    let none = Parts { top: 0, bottom: 1 };
-    let mut entries = [Entry {
-        label: 0,
-        multiplier: none,
-    }; MOST_ENTRIES];
-    write_entries(evidence, &mut entries);
-    let mut row = [0; ROW_BYTES];
-    let end = clash_row(&mut row, label, &entries[0..evidence.len()]).unwrap();
-    out.extend_from_slice(&row[0..end])
+    let entries = entries_of(*out.allocator(), evidence)?;
+    add_entries(out, label, &entries)
 }
 
-// Writes the evidence of a clash, as it is printed, over the first entries.
-fn write_entries<K: Shown>(evidence: &[Record<K>], entries: &mut [Entry])
-    requires { length evidence.now ≤ length entries.old }
-    ensures { take (length evidence.now) entries.new ≡ entries_of K.Number.kind evidence.now }
+fn add_entries(out: &mut Vec<u8>, label: u32, entries: &[Entry]) -> Result<(), AllocError>
+    requires { length entries.now ≤ 49 }
+    ensures { Added (clash_row label entries.now) out.old.items out.new.items result }
 {
-    for i in 0..evidence.len() {
-        entries[i] = entry_of(evidence[i]);
-    }
+    add_row(out, |row| clash_row(row, label, entries))
 }
 
+fn entries_of<K: Shown>(heap: Global, evidence: &[Record<K>]) -> Result<Vec<Entry>, AllocError>
+    ensures { IfOk result (λ v. v.items ≡ entries_of K.Number.kind evidence.now) }
+{
+    evidence.iter().map(|told| entry_of(*told)).collect(heap)
+}
+
+// A record as it is printed. (Neither type is of this crate, so no From can stand here.)
 fn entry_of<K: Shown>(told: Record<K>) -> Entry
     ensures { result ≡ entry_of K.Number.kind told }
 {
@@ -86,7 +89,7 @@ fn entry_of<K: Shown>(told: Record<K>) -> Entry
     }
 }
 
-// A value as it is printed: by the fraction that it tells alone.
+// A value as it is printed: by the fraction that it tells alone. (What `parts` promises is that its parts make that fraction.)
 pub(crate) fn parts_of<K: Shown>(value: K) -> Parts
     ensures { result ≡ parts_told (K.Number.kind.tells value) }
 {

@@ -1,16 +1,18 @@
-ghost use Rattle.std.specs.Prelude.{◌≡◌, ◌≤◌, length};
+ghost use Rattle.std.specs.Prelude.{◌≤◌, length};
 ghost use Rattle.recipe.specs.Added.{Added};
-ghost use Rattle.recipe.specs.Evidence.{clash_count, sheet_count, Within, Evident, answer_row, fault_row};
+ghost use Rattle.recipe.specs.Evidence.{clash_count, Within, Evident, answer_row, fault_row};
 
 use crate::adding::{add_clash, add_follows, add_held, add_refused};
 use elimination::fault::SheetFault;
 use elimination::record::Record;
+use exact::report::Report;
 use exact::shown::Shown;
 use placing::fault::TextFault;
 use sheet::answer::Stated;
 use std::alloc::AllocError;
 
-// Adds the row of a line that was answered so.
+// Adds the row of a line that was answered so. There are at most 49 records here and below, the held lines of the largest sheet and the
+// refused one: the sheet itself takes any number, so the bound is no part of a type of its.
 pub(crate) fn add_answer<K: Shown>(
     out: &mut Vec<u8>,
     label: u32,
@@ -39,27 +41,11 @@ fn add_fault<K: Shown>(
     requires evident { Within (length records.now) (clash_count fault) }
     ensures { Added (fault_row K.Number.kind label fault records.now (clash_count fault)) out.old.items out.new.items result }
 {
-    match records_of(fault) {
-        Some(count) => add_clash(out, label, &records[0..count]),
-        None => add_refused(out, label, fault.report()),
-    }
-}
-
-// How many records tell why, if the fault is a clash.
-fn records_of(fault: TextFault) -> Option<usize>
-    ensures { result ≡ clash_count fault }
-{
     match fault {
-        TextFault::Sheet { fault, column: _ } => records_told(fault),
-        _ => None,
-    }
-}
-
-fn records_told(fault: SheetFault) -> Option<usize>
-    ensures { result ≡ sheet_count fault }
-{
-    match fault {
-        SheetFault::Clash { count } => Some(count),
-        _ => None,
+        TextFault::Sheet {
+            fault: SheetFault::Clash { count },
+            ..
+        } => add_clash(out, label, &records[..count]),
+        _ => add_refused(out, label, Report::from(fault)),
     }
 }

@@ -6,6 +6,7 @@ ghost use Rattle.recipe.specs.Transcribed.{Transcribed};
 use crate::adding::add_refused;
 use crate::working::worked;
 use cutting::lines::Lines;
+use exact::report::Report;
 use placing::fault::TextFault;
 use placing::input::open_input;
 use std::alloc::{AllocError, Global};
@@ -16,7 +17,7 @@ pub fn transcript(heap: Global, input: &[u8]) -> Result<Vec<u8>, AllocError>
 {
     let mut lines = Lines::of(input);
     match open_input(&mut lines) {
-        Ok(heading) => worked(heap, heading, &mut lines),
+        Ok(heading) => worked(heap, heading, lines),
         Err(fault) => refused(heap, fault),
     }
 }
@@ -26,6 +27,6 @@ fn refused(heap: Global, fault: TextFault) -> Result<Vec<u8>, AllocError>
     ensures { IfOk result (λ v. v.items ≡ refused_row 0 (text_report fault)) }
 {
     let mut out = Vec::new(heap);
-    add_refused(&mut out, 0, fault.report())?;
+    add_refused(&mut out, 0, Report::from(fault))?;
     Ok(out)
 }

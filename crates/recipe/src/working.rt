@@ -21,15 +21,17 @@ use sheet::size::measure;
 use std::alloc::{AllocError, Global};
 
 // Works the lines after a heading, in the numbers of its kind.
+// Each call here asks that the labels are counted, and not the type Lines: the bound is the recipe's, 16,384 bytes, so that a label fits.
 pub(crate) fn worked(
     heap: Global,
     heading: Heading,
-    lines: &mut Lines<'_>,
+    lines: Lines<'_>,
 ) -> Result<Vec<u8>, AllocError>
     requires size { (1 ≤ heading.n) × (heading.n ≤ 48) }
-    requires counted { Counted lines.old }
-    ensures { IfOk result (λ v. Worked heading.kind heading.n (named lines.old) v.items) }
+    requires counted { Counted lines }
+    ensures { IfOk result (λ v. Worked heading.kind heading.n (named lines.entry) v.items) }
 {
+    // Each arm is of another type of numbers.
     match heading.kind {
         KindLetter::R => worked_in::<Ratio>(heap, heading.n, lines),
         KindLetter::P => worked_in::<Parity>(heap, heading.n, lines),
@@ -41,11 +43,11 @@ pub(crate) fn worked(
 fn worked_in<K: Shown + Clone>(
     heap: Global,
     n: usize,
-    lines: &mut Lines<'_>,
+    lines: Lines<'_>,
 ) -> Result<Vec<u8>, AllocError>
     requires size { (1 ≤ n) × (n ≤ 48) }
-    requires counted { Counted lines.old }
-    ensures { IfOk result (λ v. SheetDone K.Number.kind n (named lines.old) v.items) }
+    requires counted { Counted lines }
+    ensures { IfOk result (λ v. SheetDone K.Number.kind n (named lines.entry) v.items) }
 {
     let needed = measure(n, usize::MAX).unwrap();
     let nought = zero::<K>();
@@ -68,13 +70,13 @@ fn add_lines<K: Shown>(
     out: &mut Vec<u8>,
     sheet: &mut Sheet<'_, K>,
     records: &mut [Record<K>],
-    lines: &mut Lines<'_>,
+    lines: Lines<'_>,
 ) -> Result<(), AllocError>
     requires few { length records.old ≤ 49 }
-    requires counted { Counted lines.old }
-    ensures { OnOk result (Adds K.Number.kind (length records.old) (contents sheet.old) (named lines.old) out.old.items out.new.items (contents sheet.new)) }
+    requires counted { Counted lines }
+    ensures { OnOk result (Adds K.Number.kind (length records.old) (contents sheet.old) (named lines.entry) out.old.items out.new.items (contents sheet.new)) }
 {
-    while let Some(line) = lines.next_line() {
+    for line in lines {
         let label = line.label as u32;
         let answer = state_text(sheet, line.bytes, label, records);
         add_answer(out, label, answer, records)?;

@@ -2,7 +2,7 @@ use crate::case::{Case, run_all};
 use std::test::Fail;
 
 // Empty lines count, the last line may lack its end, and any byte may stand anywhere.
-static DAMAGED: [Case; 10] = [
+static DAMAGED: &[Case] = &[
     Case {
         recipe: b"R 2\n\n\nq1 = 1\n\n\n\nq2 = 2\n\n",
         rows: b"3 held 1\n7 held 2\nq1 = 1\nq2 = 2\n",
@@ -47,5 +47,5 @@ static DAMAGED: [Case; 10] = [
 
 #[test]
 fn damaged_recipes(rt: HostRuntime) -> Result<(), Fail> {
-    run_all(&rt, rt.alloc(), &DAMAGED)
+    run_all(&rt, rt.alloc(), DAMAGED)
 }

@@ -2,7 +2,7 @@ use crate::case::{Case, run_all};
 use std::test::Fail;
 
 // The recipes of the folder recipes/, byte by byte.
-static RECIPES: [Case; 6] = [
+static RECIPES: &[Case] = &[
     Case {
         recipe: b"R 3\nq1 + q2 + q3 = 6\nq2 + q3 = 4\n2q1 + q2 + q3 = 9\n",
         rows: b"1 held 1\n2 held 2\n3 clash 1:-2 2:1 3:1\nq1 = 2\n",
@@ -31,5 +31,5 @@ static RECIPES: [Case; 6] = [
 
 #[test]
 fn recipes_of_the_trade(rt: HostRuntime) -> Result<(), Fail> {
-    run_all(&rt, rt.alloc(), &RECIPES)
+    run_all(&rt, rt.alloc(), RECIPES)
 }

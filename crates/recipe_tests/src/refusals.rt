@@ -2,7 +2,7 @@ use crate::case::{Case, run_all};
 use std::test::Fail;
 
 // Headings: the form, and n outside 1 to 48.
-static HEADINGS: [Case; 20] = [
+static HEADINGS: &[Case] = &[
     Case {
         recipe: b"",
         rows: b"0 refused 22 0\n",
@@ -86,7 +86,7 @@ static HEADINGS: [Case; 20] = [
 ];
 
 // Limits, the form, set points outside the sheet or twice, and numbers beyond a million.
-static LINES: [Case; 9] = [
+static LINES: &[Case] = &[
     Case {
         recipe: b"R 2\n10000q1 = 0\n10001q1 = 0\n-10001q2 = 0\nq2 - 10001 q1 = 1\n",
         rows: b"1 held 1\n2 refused 20 1\n3 refused 20 2\n4 refused 20 6\nq1 = 0\n",
@@ -127,10 +127,10 @@ static LINES: [Case; 9] = [
 
 #[test]
 fn headings(rt: HostRuntime) -> Result<(), Fail> {
-    run_all(&rt, rt.alloc(), &HEADINGS)
+    run_all(&rt, rt.alloc(), HEADINGS)
 }
 
 #[test]
 fn refused_lines(rt: HostRuntime) -> Result<(), Fail> {
-    run_all(&rt, rt.alloc(), &LINES)
+    run_all(&rt, rt.alloc(), LINES)
 }

@@ -1,8 +1,8 @@
 -- Remainders keep the laws of a kind, by any modulus at which all but 0 have reciprocals.
-use Rattle.std.specs.Prelude.{◌≡◌, ℕ, zero, suc, ◌*◌, ◌%◌, ◌<◌, true, false, cond, T, [], ◌∷◌, ℤ, pos, ◌-ℤ◌, ◌*ℤ◌, Some, None, Option, ◌==◌, ◌≢◌, refl}
+use Rattle.std.specs.Prelude.{◌≡◌, ℕ, ◌*◌, ◌%◌, ◌<◌, true, cond, T, [], ◌∷◌, ℤ, pos, ◌-ℤ◌, ◌*ℤ◌, Some, None, Option, ◌==◌, ◌≢◌, refl}
 use Rattle.std.proofs.Common.{sym, subst, ◌∙◌, inl, arith, eqb→eq}
 use Rattle.std.proofs.Math.Path.{ap}
-use Rattle.std.proofs.Math.Dec.{eqb-suc-zero}
+use Rattle.std.proofs.lemmas.Bool.{ne_eqb}
 use Rattle.std.proofs.Math.IntN.{*ℤ_comm}
 use Rattle.exact.specs.Fraction.{Fraction, whole, times, opposite, turned, less_times, ratio}
 use Rattle.exact.specs.Kind.{KindLaws, Lawful}
@@ -20,10 +20,6 @@ pub record Residues (p : ℕ) {V : Type 0} (number : V → ℕ) (make : ℤ → 
   pub below : (v : V) → number v < p
   pub made : (z : ℤ) → number (make z) ≡ rest p z
   pub once : (v w : V) → number v ≡ number w → v ≡ w
-
-pub nonzero_test : (n : ℕ) → (n ≢ 0) → (n == 0) ≡ false
-nonzero_test zero f = absurd (f refl)
-nonzero_test (suc n) f = eqb-suc-zero n
 
 module _ {p : ℕ} {V : Type 0} {number : V → ℕ} {make : ℤ → V} (𝓡 : Residues p number make) where
   open 𝓡 use {large, right, below, made, once}
@@ -59,7 +55,7 @@ module _ {p : ℕ} {V : Type 0} {number : V → ℕ} {make : ℤ → V} (𝓡 : 
 
   has_value : (x : Fraction) → Admits (Multiple p) x → value_of x ≡ Some (make (chosen x))
   unfolding residue_of
-  has_value x f = ap (λ b. cond b None (Some (make (chosen x)))) (nonzero_test (rest p x.bottom) (λ e. f (R.rest_zero p large right x.bottom e)))
+  has_value x f = ap (λ b. cond b None (Some (make (chosen x)))) (ne_eqb (rest p x.bottom) 0 (λ e. f (R.rest_zero p large right x.bottom e)))
 
   -- the value of a number is the one that tells it
   written : (x : Fraction) → Admits (Multiple p) x → (v : V) → Alike (Multiple p) (tells v) x → value_of x ≡ Some v

@@ -1,11 +1,10 @@
 -- A row of whole numbers that every kind holds.
-use Rattle.std.proofs.Common.{◌≡◌, ℕ, ◌+◌, ◌<◌, ◌≤◌, Bool, List, [], ◌∷◌, map, length, get_or, drop, ℤ, pos, nat_abs, Ok, Err, Result, sym, ap, ◌∙◌, arith}
+use Rattle.std.proofs.Common.{◌≡◌, ℕ, ◌+◌, ◌<◌, ◌≤◌, Bool, List, [], ◌∷◌, map, length, get_or, drop, ℤ, pos, nat_abs, Ok, sym, ap, ◌∙◌, arith}
 use Rattle.std.proofs.lemmas.List.{drop_more, drop_all}
 use Rattle.exact.specs.Fraction.{Fraction}
 use Rattle.exact.specs.Kind.{Kind, Lawful}
 use Rattle.exact.specs.Answers.{value_of}
 use Rattle.exact.proofs.Held.{whole_held}
-use Rattle.rows.specs.declared.fault.RowFault.{RowFault}
 use Rattle.rows.specs.Row.{placed, ahead, onto, by_column, whole_op, whole_row}
 use Rattle.rows.proofs.Ops.{whole_inside}
 
@@ -23,6 +22,3 @@ module _ {V : Type 0} {K : Kind V} {admits : Fraction → Type 0} {alike : Fract
   pub loaded : (w : List V) → length w ≡ length numbers → whole_row K numbers w ≡ Ok (map (value_of K) numbers)
   unfolding whole_row
   loaded w e = from 0 w (omega arith)
-
-pub no_row_fault : (f : RowFault) → ◌≡◌ {A = Result Unit RowFault} (Err f) (Ok tt) → ⊥
-no_row_fault f e = let z : ◌≡◌ {A = ℕ} 0 1 = cc in omega arith

@@ -1,96 +1,78 @@
 -- What the operations on a row do in a column.
-use Rattle.std.proofs.Common.{◌≡◌, ℕ, zero, suc, ◌+◌, ◌<◌, ◌≤◌, Bool, true, false, cond, T, ltb, List, [], ◌∷◌, length, get_or, ℤ, pos, Some, Ok, Err, Result, sym, refl, ap, ◌∙◌, add-one, arith, ltb→lt, lt→ltb}
-use Rattle.std.proofs.lemmas.List.{get_or_past}
+use Rattle.std.proofs.Common.{◌≡◌, ℕ, zero, suc, ◌<◌, ◌≤◌, Bool, true, false, not, cond, ltb, List, length, get_or, ℤ, pos, Option, None, Some, Ok, sym, refl, ap, ◌∙◌, arith}
+use native.Mathlib.Decide.{dec_le}
+use Rattle.std.specs.Bool.{then_some}
+use Rattle.std.specs.Option.{MatchOption, unwrap_or}
+use Rattle.std.proofs.lemmas.Bool.{lt-ltb, le-ltb}
+use Rattle.std.proofs.lemmas.List.{get_or_read}
 use Rattle.exact.specs.Fraction.{Fraction}
 use Rattle.exact.specs.Kind.{Kind, Lawful}
 use Rattle.exact.specs.Answers.{whole_of, less_of}
 use Rattle.exact.proofs.Held.{whole_always, less_held, over_held}
-use Rattle.rows.specs.declared.fault.RowFault.{RowFault}
-use Rattle.rows.specs.Row.{at, done, Leaves, by_column, less_swept, whole_op, whole_row, less_op, over_op, less_row, over_row, cleared, clear_swept, highest}
-use Rattle.rows.proofs.Sweeps.{always, made_swept, swept_length}
-
-pub inside : (u m : ℕ) → u < m → ltb u m ≡ true
-inside u m h = go (ltb u m) (lt→ltb u m h)
-  where
-    go : (b : Bool) → T b → b ≡ true
-    go true t = refl
-    go false t = absurd t
-
-pub outside : (u m : ℕ) → m ≤ u → ltb u m ≡ false
-outside u m h = go (ltb u m) (λ t. let l : u < m = ltb→lt u m t in omega arith)
-  where
-    go : (b : Bool) → (T b → ⊥) → b ≡ false
-    go true n = absurd (n tt)
-    go false n = refl
-
--- an element does not depend on the default
-pub any_default : {V : Type 0} (r : List V) (u : ℕ) (d e : V) → u < length r → get_or r u d ≡ get_or r u e
-any_default [] u d e h = absurd (omega arith)
-any_default (x ∷ r) zero d e h = refl
-any_default (x ∷ r) (suc u) d e h = any_default r u d e (omega arith)
+use Rattle.rows.specs.Row.{at, done, less_swept, whole_op, whole_row, less_op, over_op, less_row, over_row, cleared, clear_swept, highest}
+use Rattle.rows.proofs.Sweeps.{always}
 
 module _ {V : Type 0} (K : Kind V) where
   pub whole_inside : (numbers : List ℤ) (u : ℕ) (x : V) → u < length numbers → whole_op K numbers u x ≡ whole_of K (get_or numbers u (pos 0))
   unfolding whole_op
-  whole_inside numbers u x h = ap (λ b. cond b (whole_of K (get_or numbers u (pos 0))) (Ok x)) (inside u (length numbers) h)
-
-  pub whole_past : (numbers : List ℤ) (u : ℕ) (x : V) → length numbers ≤ u → whole_op K numbers u x ≡ Ok x
-  unfolding whole_op
-  whole_past numbers u x h = ap (λ b. cond b (whole_of K (get_or numbers u (pos 0))) (Ok x)) (outside u (length numbers) h)
+  whole_inside numbers u x h = ap (λ b. cond b (whole_of K (get_or numbers u (pos 0))) (Ok x)) (lt-ltb u (length numbers) h)
 
   pub less_inside : (f : V) (r : List V) (u : ℕ) (x y : V) → u < length r → y ≡ get_or r u K.nil → less_op K f r u x ≡ less_of K x f y
   unfolding less_op
-  less_inside f r u x y h e = ap (λ b. cond b (less_of K x f (at K r u)) (Ok x)) (inside u (length r) h) ∙ ap (less_of K x f) (sym e)
+  less_inside f r u x y h e = ap (λ b. cond b (less_of K x f (at K r u)) (Ok x)) (lt-ltb u (length r) h) ∙ ap (less_of K x f) (sym e)
 
   pub less_past : (f : V) (r : List V) (u : ℕ) (x : V) → length r ≤ u → less_op K f r u x ≡ Ok x
   unfolding less_op
-  less_past f r u x h = ap (λ b. cond b (less_of K x f (at K r u)) (Ok x)) (outside u (length r) h)
+  less_past f r u x h = ap (λ b. cond b (less_of K x f (at K r u)) (Ok x)) (le-ltb u (length r) h)
 
   -- the number that was read from a column
   pub at_is : (w : List V) (s : ℕ) (x : V) → s < length w → x ≡ get_or w s x → at K w s ≡ x
-  at_is w s x h e = any_default w s K.nil x h ∙ sym e
+  at_is w s x h e = sym (get_or_read w s x h e K.nil)
 
-  pub at_past : (w : List V) (s : ℕ) → length w ≤ s → at K w s ≡ K.nil
-  at_past w s h = get_or_past w s K.nil h
+  -- what a filter by a test for 0 leaves of the number in a column
+  pub nonzero_is : K.is_zero K.nil ≡ true → (w : List V) (s : ℕ) (o r : Option V) {Q : V → Bool → Type 0} → unwrap_or o K.nil ≡ at K w s → MatchOption o (r ≡ None) (λ x. (b : Bool) × Q x b × (r ≡ then_some b x))
+      → ((x : V) (b : Bool) → Q x b → b ≡ not (K.is_zero x)) → r ≡ cond (K.is_zero (at K w s)) None (Some (at K w s))
+  nonzero_is z w s o r {Q} e m k = go o (sym e) m
+    where
+      turned : (b : Bool) (x : V) → then_some (not b) x ≡ cond b None (Some x)
+      turned true x = refl
+      turned false x = refl
+
+      go : (o : Option V) → at K w s ≡ unwrap_or o K.nil → MatchOption o (r ≡ None) (λ x. (b : Bool) × Q x b × (r ≡ then_some b x)) → r ≡ cond (K.is_zero (at K w s)) None (Some (at K w s))
+      go None d m = m ∙ sym (ap (λ b. cond b None (Some (at K w s))) (ap K.is_zero d ∙ z))
+      go (Some x) d m = m.2 ∙ ap (λ b. then_some b x) (k x m.0 m.1) ∙ turned (K.is_zero x) x ∙ ap (λ y. cond (K.is_zero y) None (Some y)) (sym d)
 
   -- a column that is 0 already, and one that is not
-  pub cleared_zero : (s : ℕ) (w r : List V) (x : V) → at K w s ≡ x → K.is_zero x ≡ true → (cleared K s w r ≡ Ok w) × (clear_swept K s w r ≡ w)
+  pub cleared_is : (s : ℕ) (w r : List V) (o : Option V) → o ≡ cond (K.is_zero (at K w s)) None (Some (at K w s)) →
+      MatchOption o ((cleared K s w r ≡ Ok w) × (clear_swept K s w r ≡ w)) (λ f. (cleared K s w r ≡ less_row K f w r) × (clear_swept K s w r ≡ less_swept K f w r))
   unfolding cleared clear_swept
-  cleared_zero s w r x e z =
-      let t : K.is_zero (at K w s) ≡ true = ap K.is_zero e ∙ z in
-      (ap (λ b. cond b (Ok w) (less_row K (at K w s) w r)) t, ap (λ b. cond b w (less_swept K (at K w s) w r)) t)
-
-  pub cleared_less : (s : ℕ) (w r : List V) (x : V) → at K w s ≡ x → K.is_zero x ≡ false → (cleared K s w r ≡ less_row K x w r) × (clear_swept K s w r ≡ less_swept K x w r)
-  unfolding cleared clear_swept
-  cleared_less s w r x e z =
-      let t : K.is_zero (at K w s) ≡ false = ap K.is_zero e ∙ z in (
-        ap (λ b. cond b (Ok w) (less_row K (at K w s) w r)) t ∙ ap (λ y. less_row K y w r) e,
-        ap (λ b. cond b w (less_swept K (at K w s) w r)) t ∙ ap (λ y. less_swept K y w r) e,
-      )
-
-  pub highest_more : (w : List V) (i : ℕ) (x : V) → i < length w → x ≡ get_or w i x → highest K (i + 1) w ≡ cond (K.is_zero x) (highest K i w) (Some i)
-  highest_more w i x h e = ap (λ n. highest K n w) (add-one i) ∙ ap (λ y. cond (K.is_zero y) (highest K i w) (Some i)) (at_is w i x h e)
-
-  -- what clearing a column leaves
-  pub clear_length : (s : ℕ) (w r : List V) → length (clear_swept K s w r) ≡ length w
-  unfolding clear_swept less_swept
-  clear_length s w r = go (K.is_zero (at K w s))
+  cleared_is s w r o e = go (K.is_zero (at K w s)) o e
     where
-      go : (b : Bool) → length (cond b w (less_swept K (at K w s) w r)) ≡ length w
-      go true = refl
-      go false = swept_length (less_op K (at K w s) r) 0 w
+      go : (b : Bool) (o : Option V) → o ≡ cond b None (Some (at K w s)) →
+          MatchOption o ((cond b (Ok w) (less_row K (at K w s) w r) ≡ Ok w) × (cond b w (less_swept K (at K w s) w r) ≡ w)) (λ f. (cond b (Ok w) (less_row K (at K w s) w r) ≡ less_row K f w r) × (cond b w (less_swept K (at K w s) w r) ≡ less_swept K f w r))
+      go true None e = (refl, refl)
+      go true (Some f) e = cc
+      go false None e = cc
+      go false (Some f) e = let d : at K w s ≡ f = cc in (ap (λ x. less_row K x w r) d, ap (λ x. less_swept K x w r) d)
 
-  pub clear_leaves : (s : ℕ) (w r : List V) → Leaves (cleared K s w r) (clear_swept K s w r)
-  unfolding clear_swept less_swept cleared less_row
-  clear_leaves s w r = go (K.is_zero (at K w s))
+  highest_past : (w : List V) (m : ℕ) → ((k : ℕ) → k < m → K.is_zero (at K w k) ≡ true) → highest K m w ≡ None
+  highest_past w zero z = refl
+  highest_past w (suc u) z = ap (λ b. cond b (highest K u w) (Some u)) (z u (omega arith)) ∙ highest_past w u (λ k l. z k (omega arith))
+
+  highest_here : (w : List V) (m i : ℕ) → i < m → K.is_zero (at K w i) ≡ false → ((k : ℕ) → i < k → k < m → K.is_zero (at K w k) ≡ true) → highest K m w ≡ Some i
+  highest_here w zero i h n z = absurd (omega arith)
+  highest_here w (suc u) i h n z = go (dec_le u i) (λ l. highest_here w u i l n (λ k a b. z k a (omega arith)))
     where
-      made : (m : Result (List V) RowFault) → by_column (less_op K (at K w s) r) 0 w ≡ m → Leaves m (less_swept K (at K w s) w r)
-      made (Ok v) e = made_swept (less_op K (at K w s) r) 0 w v e
-      made (Err f) e = tt
+      go : Dec (u ≤ i) → (i < u → highest K u w ≡ Some i) → highest K (suc u) w ≡ Some i
+      go (yes l) below = let e : u ≡ i = omega arith in ap (λ k. highest K (suc k) w) e ∙ ap (λ b. cond b (highest K i w) (Some i)) n
+      go (no l) below = ap (λ b. cond b (highest K u w) (Some u)) (z u (omega arith) (omega arith)) ∙ below (omega arith)
 
-      go : (b : Bool) → Leaves (cond b (Ok w) (less_row K (at K w s) w r)) (cond b w (less_swept K (at K w s) w r))
-      go true = refl
-      go false = made (less_row K (at K w s) w r) refl
+  -- the last place that passes
+  pub highest_is : (w : List V) (r : Option ℕ) → (r ≡ None → (k : ℕ) → k < length w → K.is_zero (at K w k) ≡ true)
+      → ((i : ℕ) → r ≡ Some i → (i < length w) × (K.is_zero (at K w i) ≡ false) × ((k : ℕ) → i < k → k < length w → K.is_zero (at K w k) ≡ true))
+      → r ≡ highest K (length w) w
+  highest_is w None none some = sym (highest_past w (length w) (none refl))
+  highest_is w (Some i) none some = let s = some i refl in sym (highest_here w (length w) i s.0 s.1 s.2)
 
 module _ {V : Type 0} {K : Kind V} {admits : Fraction → Type 0} {alike : Fraction → Fraction → Type 0} {complete : Bool} (laws : Lawful K admits alike complete) (all : complete ≡ true) where
   pub whole_row_always : (numbers : List ℤ) (w : List V) → done (whole_row K numbers w) ≡ Ok tt

@@ -1,8 +1,9 @@
 -- A list that is worked line by line.
-use Rattle.std.proofs.Common.{◌≡◌, ℕ, zero, suc, ◌+◌, ◌-◌, ◌*◌, ◌/◌, ◌<◌, ◌≤◌, Bool, true, false, cond, leb, List, [], ◌∷◌, length, take, drop, ℤ, Ok, Err, Result, sym, refl, ap, ◌∙◌, ap₂, add-zero, add_assoc, add-mul, zero-mul, arith, drop-drop}
-use native.Mathlib.Nat.{sub-zero}
+use Rattle.std.proofs.Common.{◌≡◌, ℕ, zero, suc, ◌+◌, ◌-◌, ◌/◌, ◌<◌, ◌≤◌, Bool, true, false, cond, leb, List, [], ◌∷◌, ◌++◌, length, take, drop, ℤ, Ok, Err, Result, sym, refl, ap, ◌∙◌, ap₂, subst, add-zero, zero-add, add-one, add_assoc, arith}
 use native.Mathlib.Decide.{dec_le}
-use Rattle.std.proofs.lemmas.Nat.{div-add-mod', mul-le}
+use Rattle.std.proofs.Math.Nat.{add-div_left, div-eq_of_lt}
+use Rattle.std.proofs.Math.Seq.{take-append_seam, drop-append_seam}
+use Rattle.std.proofs.lemmas.List.{length-append}
 use Rattle.std.proofs.lemmas.Bool.{false≢true, leb-true}
 use Rattle.std.proofs.lemmas.Bool.Decides.{nat_tests}
 use Rattle.exact.specs.Kind.{Kind}
@@ -86,84 +87,94 @@ self_apart s = refl
 after_size : {V : Type 0} (S : Contents V) (v : Verdict V) → (after S v).n ≡ S.n
 after_size S v = refl
 
-pub line_inside : (w i have : ℕ) → i < have / w → i * w + w ≤ have
-line_inside w i have h = omega (arith, div-add-mod' have w, mul-le (i + 1) w (have / w) w (omega arith) (omega arith), add-mul i 1 w)
+-- one line comes off the front
+line_first : (w : ℕ) (x rest : List ℤ) → 0 < w → length x ≡ w
+    → (length (x ++ rest) / w ≡ suc (length rest / w)) × (lines_of w (length (x ++ rest) / w) (x ++ rest) ≡ x ∷ lines_of w (length rest / w) rest)
+line_first w x rest some long =
+    let more : length (x ++ rest) / w ≡ suc (length rest / w) =
+    ap (λ k. k / w) (length-append x rest ∙ ap (λ k. k + length rest) long) ∙ add-div_left (length rest) some ∙ add-one (length rest / w) in (
+      more,
+      ap (λ m. lines_of w m (x ++ rest)) more
+          ∙ ap₂ (λ l ls. l ∷ lines_of w (length rest / w) ls)
+          (ap (λ k. take k (x ++ rest)) (sym long) ∙ take-append_seam x rest)
+          (ap (λ k. drop k (x ++ rest)) (sym long) ∙ drop-append_seam x rest),
+    )
 
-pub line_is : (w i : ℕ) (xs : List ℤ) → take (i * w + w - i * w) (drop (i * w) xs) ≡ take w (drop (i * w) xs)
-line_is w i xs = let e : i * w + w - i * w ≡ w = omega arith in ap (λ k. take k (drop (i * w) xs)) e
+no_lines : (w : ℕ) (rest : List ℤ) → length rest < w → lines_of w (length rest / w) rest ≡ []
+no_lines w rest h = ap (λ m. lines_of w m rest) (div-eq_of_lt h)
 
-line_first : (w count i : ℕ) (xs : List ℤ) → i < count → lines_of w (count - i) (drop (i * w) xs) ≡ take w (drop (i * w) xs) ∷ lines_of w (count - (i + 1)) (drop ((i + 1) * w) xs)
-line_first w count i xs h =
-    let more : count - i ≡ suc (count - (i + 1)) = omega arith in
-    let on : i * w + w ≡ (i + 1) * w = omega (arith, add-mul i 1 w) in
-    ap (λ m. lines_of w m (drop (i * w) xs)) more
-    ∙ ap (λ ys. take w (drop (i * w) xs) ∷ lines_of w (count - (i + 1)) ys) (drop-drop w (i * w) xs ∙ ap (λ k. drop k xs) on)
-
-no_lines : (w count i : ℕ) (xs : List ℤ) → count ≤ i → lines_of w (count - i) xs ≡ []
-no_lines w count i xs h = let none : count - i ≡ 0 = omega arith in ap (λ m. lines_of w m xs) none
-
-module _ {V : Type 0} (K : Kind V) (list : List ℤ) (first w count : ℕ) where
-  -- what the lines from i (from 0) on come to
-  abbrev to_come : (i : ℕ) → Contents V → List (Record V) → Checked V
-  to_come i S rs = checked_from K (i + 1) (first + i) (lines_of w (count - i) (drop (i * w) list)) S rs
+module _ {V : Type 0} (K : Kind V) (list : List ℤ) (first w : ℕ) where
+  -- what the lines of the rest, from i (from 0) on, come to
+  abbrev to_come : (i : ℕ) → List ℤ → Contents V → List (Record V) → Checked V
+  to_come i rest S rs = checked_from K (i + 1) (first + i) (lines_of w (length rest / w) rest) S rs
 
   module _ (s₀ : Sheet V) (rs₀ : List (Record V)) where
+    abbrev pub whole_list : Checked V
+    whole_list = checked_from K 1 first (lines_of w (length list / w) list) (contents s₀) rs₀
+
     -- what is to come is what the whole list comes to; the size, the memory past the sheet, and the reference to it are as they were
-    pub record Going (i : ℕ) (s : Sheet V) (rs : List (Record V)) : Type 0 where
-      pub whole : to_come i (contents s) rs ≡ checked_from K 1 first (lines_of w count list) (contents s₀) rs₀
+    pub record Going (i : ℕ) (rest : List ℤ) (s : Sheet V) (rs : List (Record V)) : Type 0 where
+      pub whole : to_come i rest (contents s) rs ≡ whole_list
+      pub count : i + length rest / w ≡ length list / w
       pub size : (contents s).n ≡ (contents s₀).n
-      pub rest : drop (used (contents s₀).n) s.memory.now ≡ drop (used (contents s₀).n) s₀.memory.now
+      pub past : drop (used (contents s₀).n) s.memory.now ≡ drop (used (contents s₀).n) s₀.memory.now
       pub lender : s.memory.ghost_name ≡ s₀.memory.ghost_name
       pub apart : stored s ≡ with_contents (stored s₀) (contents s)
 
-    pub begins : Going 0 s₀ rs₀
+    pub begins : Going 0 list s₀ rs₀
     begins =
         record {
-          whole = ap (λ k. checked_from K 1 k (lines_of w (count - 0) (drop (0 * w) list)) (contents s₀) rs₀) (add-zero first)
-              ∙ ap₂ (λ m k. checked_from K 1 first (lines_of w m (drop k list)) (contents s₀) rs₀) (sub-zero count) (zero-mul w);
+          whole = ap (λ k. checked_from K 1 k (lines_of w (length list / w) list) (contents s₀) rs₀) (add-zero first);
+          count = zero-add (length list / w);
           size = refl;
-          rest = refl;
+          past = refl;
           lender = refl;
           apart = self_apart s₀;
         }
 
-    pub ends : (i : ℕ) (s : Sheet V) (rs : List (Record V)) → count ≤ i → i ≤ count → Going i s rs → checked_from K 1 first (lines_of w count list) (contents s₀) rs₀ ≡ record { answer = Ok (count + 1); contents = contents s; records = rs }
-    ends i s rs h k t =
-        let all : i ≡ count = omega arith in
-        sym t.whole ∙ ap (λ ls. checked_from K (i + 1) (first + i) ls (contents s) rs) (no_lines w count i (drop (i * w) list) h) ∙ ap (λ m. record { answer = Ok (m + 1); contents = contents s; records = rs }) all
+    pub as_at : {i j : ℕ} {xs ys : List ℤ} {s : Sheet V} {rs : List (Record V)} → j ≡ i → ys ≡ xs → Going i xs s rs → Going j ys s rs
+    as_at {i = i} {ys = ys} {s = s} {rs = rs} a b t = subst (λ k. Going k ys s rs) (sym a) (subst (λ l. Going i l s rs) (sym b) t)
 
-    -- what a line leaves past the sheet is what was there at first
-    pub past : (i : ℕ) (s : Sheet V) (rs : List (Record V)) → Going i s rs → (s' : Sheet V) → drop (used (contents s).n) s'.memory.now ≡ drop (used (contents s).n) s.memory.now
-        → drop (used (contents s₀).n) s'.memory.now ≡ drop (used (contents s₀).n) s₀.memory.now
-    past i s rs t s' kept = ap (λ k. drop (used k) s'.memory.now) (sym t.size) ∙ kept ∙ ap (λ k. drop (used k) s.memory.now) t.size ∙ t.rest
+    pub ends : (i : ℕ) (rest : List ℤ) (s : Sheet V) (rs : List (Record V)) → length rest < w → Going i rest s rs → whole_list ≡ record { answer = Ok (length list / w + 1); contents = contents s; records = rs }
+    ends i rest s rs h t =
+        let none = div-eq_of_lt h in
+        let all : i ≡ length list / w = let e = t.count in omega (arith, e, none) in
+        sym t.whole ∙ ap (λ ls. checked_from K (i + 1) (first + i) ls (contents s) rs) (no_lines w rest h) ∙ ap (λ m. record { answer = Ok (m + 1); contents = contents s; records = rs }) all
 
-    -- the line at i
-    module _ (i : ℕ) (s : Sheet V) (rs : List (Record V)) (h : i < count) (t : Going i s rs) (line : List ℤ) (is : line ≡ take w (drop (i * w) list)) where
+    -- the line x, at i
+    module _ (i : ℕ) (x rest : List ℤ) (s : Sheet V) (rs : List (Record V)) (some : 0 < w) (long : length x ≡ w) (t : Going i (x ++ rest) s rs) where
+      pub inside : i < length list / w
+      inside = let e = t.count in let f = (line_first w x rest some long).0 in omega (arith, e, f)
+
       abbrev judged : Verdict V
-      judged = verdict K (contents s) line (first + i) (length rs)
+      judged = verdict K (contents s) x (first + i) (length rs)
 
       abbrev one_on : Checked V
-      one_on = checked_from K (i + 1 + 1) (first + i + 1) (lines_of w (count - (i + 1)) (drop ((i + 1) * w) list)) (after (contents s) judged) (records_after judged rs)
+      one_on = checked_from K (i + 1 + 1) (first + i + 1) (lines_of w (length rest / w) rest) (after (contents s) judged) (records_after judged rs)
 
-      stated_here : (r : Result Stated SheetFault) → r ≡ stated (contents s) judged → unless_stopped r (i + 1) (after (contents s) judged) (records_after judged rs) one_on ≡ checked_from K 1 first (lines_of w count list) (contents s₀) rs₀
+      stated_here : (r : Result Stated SheetFault) → r ≡ stated (contents s) judged → unless_stopped r (i + 1) (after (contents s) judged) (records_after judged rs) one_on ≡ whole_list
       stated_here r e =
           ap (λ o. unless_stopped o (i + 1) (after (contents s) judged) (records_after judged rs) one_on) e
-          ∙ sym (ap (λ ls. checked_from K (i + 1) (first + i) ls (contents s) rs) (line_first w count i list h ∙ ap (λ l. l ∷ lines_of w (count - (i + 1)) (drop ((i + 1) * w) list)) (sym is))) ∙ t.whole
+          ∙ sym (ap (λ ls. checked_from K (i + 1) (first + i) ls (contents s) rs) (line_first w x rest some long).1) ∙ t.whole
 
-      module _ (s' : Sheet V) (rs' : List (Record V)) (now-held : contents s' ≡ after (contents s) judged) (written : rs' ≡ records_after judged rs) where
-        pub stops : (f : SheetFault) → Err f ≡ stated (contents s) judged → checked_from K 1 first (lines_of w count list) (contents s₀) rs₀ ≡ record { answer = Err (record { index = i + 1; fault = f }); contents = contents s'; records = rs' }
+      module _ (s' : Sheet V) (rs' : List (Record V)) (now-held : contents s' ≡ after (contents s) judged) (written : rs' ≡ records_after judged rs)
+          (kept : drop (used (contents s).n) s'.memory.now ≡ drop (used (contents s).n) s.memory.now) where
+        pub stops : (f : SheetFault) → Err f ≡ stated (contents s) judged → whole_list ≡ record { answer = Err (record { index = i + 1; fault = f }); contents = contents s'; records = rs' }
         stops f e = sym (stated_here (Err f) e) ∙ ap₂ (λ S xs. record { answer = Err (record { index = i + 1; fault = f }); contents = S; records = xs }) (sym now-held) (sym written)
 
-        pub goes_on : (x : Stated) → Ok x ≡ stated (contents s) judged
-            → drop (used (contents s).n) s'.memory.now ≡ drop (used (contents s).n) s.memory.now
-            → s'.memory.ghost_name ≡ s.memory.ghost_name → stored s' ≡ with_contents (stored s) (contents s') → Going (i + 1) s' rs'
-        goes_on x e kept same near =
+        -- what a line leaves past the sheet is what was there at first
+        pub past_it : drop (used (contents s₀).n) s'.memory.now ≡ drop (used (contents s₀).n) s₀.memory.now
+        past_it = ap (λ k. drop (used k) s'.memory.now) (sym t.size) ∙ kept ∙ ap (λ k. drop (used k) s.memory.now) t.size ∙ t.past
+
+        pub goes_on : (o : Stated) → Ok o ≡ stated (contents s) judged → s'.memory.ghost_name ≡ s.memory.ghost_name → stored s' ≡ with_contents (stored s) (contents s') → Going (i + 1) rest s' rs'
+        goes_on o e same near =
             record {
-              whole = ap₂ (λ S xs. to_come (i + 1) S xs) now-held written
-                  ∙ ap (λ k. checked_from K (i + 1 + 1) k (lines_of w (count - (i + 1)) (drop ((i + 1) * w) list)) (after (contents s) judged) (records_after judged rs)) (sym (add_assoc first i 1))
-                  ∙ stated_here (Ok x) e;
+              whole = ap₂ (λ S xs. to_come (i + 1) rest S xs) now-held written
+                  ∙ ap (λ k. checked_from K (i + 1 + 1) k (lines_of w (length rest / w) rest) (after (contents s) judged) (records_after judged rs)) (sym (add_assoc first i 1))
+                  ∙ stated_here (Ok o) e;
+              count = let c = t.count in let f = (line_first w x rest some long).0 in omega (arith, c, f);
               size = ap (λ S. S.n) now-held ∙ after_size (contents s) judged ∙ t.size;
-              rest = past i s rs t s' kept;
+              past = past_it;
               lender = same ∙ t.lender;
               apart = near ∙ ap (λ X. with_contents X (contents s')) t.apart;
             }

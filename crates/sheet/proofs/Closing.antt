@@ -8,6 +8,7 @@ use Rattle.rows.specs.Row.{done}
 use Rattle.elimination.specs.declared.fault.SheetFault.{SheetFault}
 use Rattle.elimination.specs.declared.record.Record.{Record}
 use Rattle.elimination.specs.Stating.{records_after}
+use Rattle.sheet.proofs.Cases.{ok_no_err}
 use Rattle.sheet.specs.declared.fault.TrialFault.{TrialFault}
 use Rattle.sheet.specs.declared.fault.TrialFault.TheVariants.{Depth, OtherTrial}
 use Rattle.sheet.specs.declared.trial.HandedBack.{HandedBack}
@@ -65,14 +66,14 @@ module _ {V : Type 0} where
         go : (b : Bool) → may_push S.marks ≡ b → cond {A = Result Trial TrialFault} b (Ok (next_trial S)) (Err Depth) ≡ Ok t
             → (t ≡ next_trial S) × (cond b (with_marks S (length S.contents.held ∷ S.marks)) S ≡ with_marks S (length S.contents.held ∷ S.marks)) × (length S.marks < 8)
         go true few e = (let d : t ≡ next_trial S = cc in d, refl, ltb-true (length S.marks) 8 few)
-        go false few e = let z : ◌≡◌ {A = ℕ} 0 1 = cc in absurd (omega arith)
+        go false few e = ok_no_err (sym e)
 
     pub not_opened : (f : TrialFault) → open_answer S ≡ Err f → (f ≡ Depth) × (open_after S ≡ S)
     unfolding open_answer open_after
     not_opened f = go (may_push S.marks)
       where
         go : (b : Bool) → cond {A = Result Trial TrialFault} b (Ok (next_trial S)) (Err Depth) ≡ Err f → (f ≡ Depth) × (cond b (with_marks S (length S.contents.held ∷ S.marks)) S ≡ S)
-        go true e = let z : ◌≡◌ {A = ℕ} 0 1 = cc in absurd (omega arith)
+        go true e = ok_no_err e
         go false e = (let d : f ≡ Depth = cc in d, refl)
 
   -- ---- closing
@@ -101,4 +102,4 @@ module _ {V : Type 0} where
     closes = ap (λ (b : Bool). cond b (Ok (mark_of T.marks)) (Err (record { trial = t; fault = OtherTrial }))) is_innermost ∙ ap (λ ms. Ok (mark_of ms)) marks_are
 
     pub never_back : (b : HandedBack) → close_answer T t ≡ Err b → ⊥
-    never_back b e = let d : ◌≡◌ {A = Result Unit HandedBack} (Ok tt) (Err b) = sym (ap done closes) ∙ e in let z : ◌≡◌ {A = ℕ} 0 1 = cc in omega arith
+    never_back b e = ok_no_err (sym (ap done closes) ∙ e)

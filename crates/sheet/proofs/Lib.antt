@@ -1,3 +1,4 @@
+mod Cases
 mod Checking
 pub mod Closing
 mod Asked

@@ -1,15 +1,14 @@
 -- What the answer of a line tells of its verdict.
-use Rattle.std.proofs.Common.{◌≡◌, ℕ, ◌+◌, List, length, Ok, Err, sym, refl, ap, ◌∙◌, ap₂, arith}
-use Rattle.ledger.specs.declared.entry.Entry.{Entry}
+use Rattle.std.proofs.Common.{◌≡◌, ℕ, ◌+◌, List, length, None, Some, Ok, Err, sym, refl, ap, ◌∙◌, ap₂}
 use Rattle.ledger.specs.Listed.{Listed, holding}
-use Rattle.elimination.specs.declared.course.Course.TheVariants.{Follows, Taken}
 use Rattle.elimination.specs.declared.fault.SheetFault.{SheetFault}
 use Rattle.elimination.specs.declared.fault.SheetFault.TheVariants.{Clash}
-use Rattle.elimination.specs.Held.{size_in, entries_in, held_lines, held_in}
+use Rattle.elimination.specs.Held.{size_in, entries_in, held_in}
 use Rattle.elimination.specs.Stating.{course, held_after, entered}
 use Rattle.elimination.specs.Steps.{Verdict, refused, follows, clash, taken}
 use Rattle.elimination.proofs.Remaining.{held_count as shown_count}
 use Rattle.sheet.specs.declared.answer.Stated.TheVariants as answer
+use Rattle.sheet.proofs.Cases.{ok_no_err, none_no_some}
 use Rattle.sheet.specs.Contents.{Contents, stated, after}
 
 module _ {V : Type 0} (S : Contents V) (v : Verdict V) (label : ℕ) (l : Listed) where
@@ -18,26 +17,26 @@ module _ {V : Type 0} (S : Contents V) (v : Verdict V) (label : ℕ) (l : Listed
     where
       go : (v : Verdict V) → course v ≡ Err f → (Err f ≡ stated S v) × (l ≡ entered v label l)
       go (refused g) e = (let d : g ≡ f = cc in ap Err (sym d), refl)
-      go follows e = let z : ◌≡◌ {A = ℕ} 0 1 = cc in absurd (omega arith)
+      go follows e = ok_no_err e
       go (clash rs) e = (let d : Clash (length rs) ≡ f = cc in ap Err (sym d), refl)
-      go (taken q hs) e = let z : ◌≡◌ {A = ℕ} 0 1 = cc in absurd (omega arith)
+      go (taken q hs) e = ok_no_err e
 
-  pub follows_is : course v ≡ Ok Follows → (Ok answer.Follows ≡ stated S v) × (l ≡ entered v label l)
+  pub follows_is : course v ≡ Ok None → (Ok answer.Follows ≡ stated S v) × (l ≡ entered v label l)
   follows_is e = go v e
     where
-      go : (v : Verdict V) → course v ≡ Ok Follows → (Ok answer.Follows ≡ stated S v) × (l ≡ entered v label l)
-      go (refused g) e = let z : ◌≡◌ {A = ℕ} 0 1 = cc in absurd (omega arith)
+      go : (v : Verdict V) → course v ≡ Ok None → (Ok answer.Follows ≡ stated S v) × (l ≡ entered v label l)
+      go (refused g) e = ok_no_err (sym e)
       go follows e = (refl, refl)
-      go (clash rs) e = let z : ◌≡◌ {A = ℕ} 0 1 = cc in absurd (omega arith)
-      go (taken q hs) e = let z : ◌≡◌ {A = ℕ} 0 1 = cc in absurd (omega arith)
+      go (clash rs) e = ok_no_err (sym e)
+      go (taken q hs) e = none_no_some (sym e)
 
-  pub taken_is : (q : ℕ) → course v ≡ Ok (Taken q) → (Ok (answer.Held (length S.held + 1)) ≡ stated S v) × (holding label q l ≡ entered v label l)
+  pub taken_is : (q : ℕ) → course v ≡ Ok (Some q) → (Ok (answer.Held (length S.held + 1)) ≡ stated S v) × (holding label q l ≡ entered v label l)
   taken_is q e = go v e
     where
-      go : (v : Verdict V) → course v ≡ Ok (Taken q) → (Ok (answer.Held (length S.held + 1)) ≡ stated S v) × (holding label q l ≡ entered v label l)
-      go (refused g) e = let z : ◌≡◌ {A = ℕ} 0 1 = cc in absurd (omega arith)
-      go follows e = let z : ◌≡◌ {A = ℕ} 0 1 = cc in absurd (omega arith)
-      go (clash rs) e = let z : ◌≡◌ {A = ℕ} 0 1 = cc in absurd (omega arith)
+      go : (v : Verdict V) → course v ≡ Ok (Some q) → (Ok (answer.Held (length S.held + 1)) ≡ stated S v) × (holding label q l ≡ entered v label l)
+      go (refused g) e = ok_no_err (sym e)
+      go follows e = none_no_some e
+      go (clash rs) e = ok_no_err (sym e)
       go (taken p hs) e = (refl, let d : p ≡ q = cc in ap (λ i. holding label i l) (sym d))
 
 -- the size of a ledger stays
@@ -57,8 +56,3 @@ contents_after v label number l l' m m' e same held =
 -- as many held lines as entries that show
 pub held_count : {V : Type 0} (l : Listed) (m : List V) → length (held_in l m) ≡ length (entries_in l (length m))
 held_count l m = shown_count l m
-
--- the held lines, by the size and the entries that were found
-pub held_is_in : {V : Type 0} (n : ℕ) (es : List Entry) (l : Listed) (m : List V) → n ≡ size_in l (length m) → es ≡ entries_in l (length m) → held_lines n m 0 es ≡ held_in l m
-unfolding held_in
-held_is_in n es l m size entries = ap₂ (λ k xs. held_lines k m 0 xs) size entries

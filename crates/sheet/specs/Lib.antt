@@ -1,5 +1,6 @@
 pub mod Contents
 pub mod Faults
+pub mod Lent
 pub mod Listing
 pub mod Reading
 pub mod Stored

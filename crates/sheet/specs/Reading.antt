@@ -1,13 +1,10 @@
 -- What is read off the rows: settled set points, and a solution.
-use Rattle.std.specs.Prelude.{ℕ, zero, suc, ◌+◌, ◌-◌, ◌<◌, Bool, true, false, cond, List, [], ◌∷◌, ◌++◌, length, drop, Some, None, Ok, Err, Option, Result, ◌==◌, nat_le}
+use Rattle.std.specs.Prelude.{ℕ, zero, suc, ◌-◌, ◌<◌, Bool, true, false, cond, List, [], ◌∷◌, ◌++◌, length, drop, Some, None, Ok, Err, Option, Result, ◌==◌, nat_le}
 use Rattle.exact.specs.Kind.{Kind}
-use Rattle.ledger.specs.declared.entry.Entry.{Entry}
 use Rattle.rows.specs.Row.{at}
 use Rattle.elimination.specs.declared.fault.SheetFault.{SheetFault}
 use Rattle.elimination.specs.declared.fault.SheetFault.TheVariants.{SetPoint, Room}
 use Rattle.elimination.specs.Held.{HeldLine}
-use Rattle.sheet.specs.declared.answer.Settled.{Settled}
-use Rattle.sheet.specs.declared.answer.Settled.TheVariants.{Value, NotSettled}
 use Rattle.sheet.specs.Contents.{Contents}
 
 -- the row that is solved for the set point u (from 0)
@@ -28,16 +25,12 @@ value_in K n u (Some row) = cond (alone K u n row) (Some (at K row n)) None
 abbrev pub value_at : {V : Type 0} → Kind V → (n u : ℕ) → List (HeldLine V) → Option V
 value_at K n u hs = value_in K n u (row_for u hs)
 
-abbrev pub told : {V : Type 0} → Option V → Settled V
-told (Some v) = Value v
-told None = NotSettled
-
 -- a set point is counted from 1
 abbrev pub is_set_point : (n q : ℕ) → Bool
 is_set_point n q = cond (nat_le 1 q) (nat_le q n) false
 
-unfoldable pub settled_answer : {V : Type 0} → Kind V → Contents V → (q : ℕ) → Result (Settled V) SheetFault
-settled_answer K S q = cond (is_set_point S.n q) (Ok (told (value_at K S.n (q - 1) S.held))) (Err SetPoint)
+unfoldable pub settled_answer : {V : Type 0} → Kind V → Contents V → (q : ℕ) → Result (Option V) SheetFault
+settled_answer K S q = cond (is_set_point S.n q) (Ok (value_at K S.n (q - 1) S.held)) (Err SetPoint)
 
 -- the constant of the row for u, 0 if there is none
 abbrev pub constant_in : {V : Type 0} → Kind V → (n : ℕ) → Option (List V) → V
@@ -61,12 +54,6 @@ solution_answer S room = cond (nat_le S.n room) (Ok tt) (Err Room)
 -- the first n numbers are the solution, the others as they were; too few are left as they were
 unfoldable pub solution_after : {V : Type 0} → Kind V → Contents V → List V → List V
 solution_after K S old = cond (nat_le S.n (length old)) (solution_of K S.n S.held ++ drop S.n old) old
-
--- ---- by the entries of a ledger
--- the place of the line for u, from the place j on
-abbrev pub place_for : (u j : ℕ) → List Entry → Option ℕ
-place_for u j [] = None
-place_for u j (e ∷ es) = cond (e.subject == u) (Some j) (place_for u (j + 1) es)
 
 abbrev pub Within : ℕ → Option ℕ → Type 0
 Within h None = Unit {0}

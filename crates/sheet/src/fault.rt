@@ -8,15 +8,16 @@ use exact::report::{Layer, Report};
 // A list that stopped at the line of this index, from 1; 0 where the whole list is refused.
 #[derive(Clone, Copy, PartialEq, Eq, Debug)]
 pub struct ListFault {
+    // No Option: the rules of `check` (docs/SHEET.md) tell a refused list by the index 0.
     pub index: usize,
     pub fault: SheetFault,
 }
 
-impl ListFault {
-    pub fn report(self) -> Report
-        ensures { result ≡ list_report self }
-    {
-        self.fault.report()
+impl From<ListFault> for Report {
+    ghost from_gives = { λ x r. r ≡ list_report x };
+
+    fn from(stop: ListFault) -> Report {
+        Report::from(stop.fault)
     }
 }
 
@@ -29,11 +30,11 @@ pub enum TrialFault {
     OtherTrial,
 }
 
-impl TrialFault {
-    pub fn report(self) -> Report
-        ensures { result ≡ trial_report self }
-    {
-        let number = match self {
+impl From<TrialFault> for Report {
+    ghost from_gives = { λ x r. r ≡ trial_report x };
+
+    fn from(fault: TrialFault) -> Report {
+        let number = match fault {
             TrialFault::Depth => 6,
             TrialFault::OtherTrial => 7,
         };
@@ -56,11 +57,11 @@ pub enum WaitFault {
     NotWaiting,
 }
 
-impl WaitFault {
-    pub fn report(self) -> Report
-        ensures { result ≡ wait_report self }
-    {
-        let number = match self {
+impl From<WaitFault> for Report {
+    ghost from_gives = { λ x r. r ≡ wait_report x };
+
+    fn from(fault: WaitFault) -> Report {
+        let number = match fault {
             WaitFault::SetPoint => 2,
             WaitFault::Waiting => 8,
             WaitFault::NotWaiting => 9,

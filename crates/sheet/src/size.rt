@@ -8,7 +8,7 @@ use ledger::limits::MOST_SET_POINTS;
 pub fn measure(n: usize, length: usize) -> Result<usize, SheetFault>
     ensures { result ≡ measured n length }
 {
-    if n < 1 || n > MOST_SET_POINTS {
+    if !(1..=MOST_SET_POINTS).contains(&n) {
         return Err(SheetFault::Size);
     }
     let needed = (n + 1) * (3 * n + 1);

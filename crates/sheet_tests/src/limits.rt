@@ -2,7 +2,7 @@ use elimination::fault::SheetFault;
 use elimination::record::Record;
 use exact::value::zero;
 use fractions::ratio::Ratio;
-use sheet::answer::{Settled, Stated};
+use sheet::answer::Stated;
 use sheet::sheet::Sheet;
 use std::test::Fail;
 
@@ -95,12 +95,12 @@ fn answers(rt: HostRuntime) -> Result<(), Fail> {
     let mut sheet = Sheet::make(2, 7, &mut memory);
     assert_eq!(rt; sheet.settled(0), Err(SheetFault::SetPoint));
     assert_eq!(rt; sheet.settled(3), Err(SheetFault::SetPoint));
-    assert_eq!(rt; sheet.settled(1), Ok(Settled::NotSettled));
+    assert_eq!(rt; sheet.settled(1), Ok(None));
     assert_eq!(rt;
         sheet.state(&[2, 0, 1], 1, &mut records),
         Ok(Stated::Held { place: 1 })
     );
-    assert_eq!(rt; sheet.settled(1), Ok(Settled::Value(Ratio::new(1, 2)?)));
+    assert_eq!(rt; sheet.settled(1), Ok(Some(Ratio::new(1, 2)?)));
     assert_eq!(rt; sheet.solution(&mut numbers), Ok(()));
     assert_eq!(rt; numbers[0], Ratio::new(1, 2)?);
     assert_eq!(rt; numbers[1], zero());

@@ -1,6 +1,7 @@
 use crate::limits::blank;
 use elimination::fault::SheetFault;
 use elimination::record::Record;
+use exact::report::Report;
 use exact::value::zero;
 use fractions::ratio::Ratio;
 use sheet::answer::Stated;
@@ -88,8 +89,8 @@ fn limit_in_the_third(rt: HostRuntime) {
         sheet.check(&[1, 1, 3, 1, 0, 1, 10_001, 0, 0], 1, &mut records),
         Err(fault)
     );
-    assert_eq!(rt; fault.report().number, 20);
-    assert_eq!(rt; fault.report().place, 1);
+    assert_eq!(rt; Report::from(fault).number, 20);
+    assert_eq!(rt; Report::from(fault).place, 1);
 }
 
 #[test]

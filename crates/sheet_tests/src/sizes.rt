@@ -1,5 +1,5 @@
+use crate::limits::blank;
 use elimination::fault::SheetFault;
-use elimination::record::Record;
 use exact::value::zero;
 use fractions::ratio::Ratio;
 use sheet::answer::Stated;
@@ -21,11 +21,7 @@ fn largest(rt: HostRuntime) -> Result<(), Fail> {
     let nothing: Ratio = zero();
     let mut memory = vec![in rt.alloc(); nothing; 7_105]?;
     let mut line = [1; 49];
-    let mut records = [Record {
-        place: 0,
-        label: 0,
-        multiplier: nothing,
-    }; 49];
+    let mut records = [blank(); 49];
     let mut sheet = Sheet::make(48, 7, &mut memory);
     assert_eq!(rt; sheet.set_points(), 48);
     assert_eq!(rt;

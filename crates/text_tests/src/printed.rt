@@ -6,10 +6,7 @@ use printing::row::{clash_row, follows_row, held_row, refused_row, settled_row};
 
 // Whether a call wrote just this row, and left the byte after it.
 fn wrote(out: &[u8], answer: Result<usize, PrintFault>, row: &[u8]) -> bool {
-    match answer {
-        Ok(n) => n < out.len() && &out[0..n] == row && out[n] == 7,
-        Err(_) => false,
-    }
+    answer.is_ok_and(|n| n < out.len() && &out[..n] == row && out[n] == 7)
 }
 
 #[test]

@@ -1,18 +1,24 @@
 -- What a list comes to in its trial.
-use Rattle.std.proofs.Common.{◌≡◌, ℕ, Bool, List, drop, ℤ, is_ok, Ok, Err, Result, sym, ap, ◌∙◌, subst, ap₂}
+use Rattle.std.proofs.Common.{◌≡◌, ℕ, Bool, List, drop, ℤ, is_ok, IsOk, Ok, Err, Result, sym, refl, ap, ◌∙◌, subst, ap₂}
 use Rattle.exact.specs.Kind.{Kind}
 use Rattle.elimination.specs.Held.{used}
 use Rattle.elimination.specs.declared.record.Record.{Record}
 use Rattle.sheet.specs.declared.fault.ListFault.{ListFault}
 use Rattle.sheet.specs.declared.fault.TrialFault.{TrialFault}
+use Rattle.sheet.specs.declared.trial.HandedBack.{HandedBack}
 use Rattle.sheet.specs.declared.trial.Trial.{Trial}
 use Rattle.sheet.specs.Contents.{Contents}
 use Rattle.sheet.specs.Listing.{checking}
 use Rattle.sheet.specs.Stored.{Stored, with_contents}
-use Rattle.sheet.specs.Trials.{open_answer, open_after}
-use Rattle.sheet.proofs.Closing.{Keeps, same, through, checking_keeps, not_opened, size}
+use Rattle.sheet.specs.Trials.{open_answer, open_after, close_answer}
+use Rattle.sheet.proofs.Closing.{Keeps, same, through, checking_keeps, not_opened, never_back, size}
 use Rattle.whole_list.specs.declared.WholeFault.TheVariants.{NotOpened}
 use Rattle.whole_list.specs.Whole.{checked_answer, closed, in_trial, if_opened, checking_whole}
+
+-- a trial that was opened over S closes where no other has been opened since and left open
+pub closes_well : {V : Type 0} (S : Stored V) (t : Trial) (opened : open_answer S ≡ Ok t) (T : Stored V) → Keeps (open_after S) T → (r : Result Unit HandedBack) → r ≡ close_answer T t → IsOk r
+closes_well S t opened T k (Ok x) e = refl
+closes_well S t opened T k (Err b) e = absurd (never_back S t opened T k b (sym e))
 
 -- over S a trial is asked for, and S₁ is what stands then
 module _ {V : Type 0} (K : Kind V) (S S₁ : Stored V) (list : List ℤ) (first : ℕ) (rs : List (Record V)) (opening : S₁ ≡ open_after S) where

@@ -1,11 +1,11 @@
 // A caller of the sheet that works in a trial: a list is taken whole or not at all.
 #![tactic(auto)]
 
-ghost use Rattle.std.specs.Prelude.{◌≡◌, drop};
-ghost use Rattle.elimination.specs.Held.{used};
-ghost use Rattle.sheet.specs.Contents.{contents};
+ghost use Rattle.std.specs.Prelude.{◌≡◌};
+ghost use Rattle.sheet.specs.Lent.{SameRest, SameLender};
 ghost use Rattle.sheet.specs.Stored.{stored};
-ghost use Rattle.whole_list.specs.Whole.{checking_whole, checked_answer, whole_report};
+ghost use Rattle.whole_list.specs.Whole.{checking_whole, whole_report};
+ghost use Rattle.whole_list.specs.declared.WholeFault.TheVariants.{NotOpened, Stopped};
 
 use elimination::record::Record;
 use exact::number::Number;
@@ -22,13 +22,29 @@ pub enum WholeFault {
     Stopped(ListFault),
 }
 
-impl WholeFault {
-    pub fn report(self) -> Report
-        ensures { result ≡ whole_report self }
-    {
-        match self {
-            WholeFault::NotOpened(fault) => fault.report(),
-            WholeFault::Stopped(fault) => fault.report(),
+impl From<TrialFault> for WholeFault {
+    ghost from_gives = { λ x r. r ≡ NotOpened x };
+
+    fn from(fault: TrialFault) -> WholeFault {
+        WholeFault::NotOpened(fault)
+    }
+}
+
+impl From<ListFault> for WholeFault {
+    ghost from_gives = { λ x r. r ≡ Stopped x };
+
+    fn from(fault: ListFault) -> WholeFault {
+        WholeFault::Stopped(fault)
+    }
+}
+
+impl From<WholeFault> for Report {
+    ghost from_gives = { λ x r. r ≡ whole_report x };
+
+    fn from(fault: WholeFault) -> Report {
+        match fault {
+            WholeFault::NotOpened(fault) => Report::from(fault),
+            WholeFault::Stopped(fault) => Report::from(fault),
         }
     }
 }
@@ -44,33 +60,19 @@ pub fn check_whole<K: Number>(
     ensures answer { result ≡ (checking_whole K.kind (stored sheet.old) list.now first records.old).answer }
     ensures stored { stored sheet.new ≡ (checking_whole K.kind (stored sheet.old) list.now first records.old).stored }
     ensures records { records.new ≡ (checking_whole K.kind (stored sheet.old) list.now first records.old).records }
-    ensures rest { drop (used (contents sheet.old).n) sheet.new.memory.now ≡ drop (used (contents sheet.old).n) sheet.old.memory.now }
-    ensures lender { sheet.new.memory.ghost_name ≡ sheet.old.memory.ghost_name }
+    ensures rest { SameRest sheet.old sheet.new }
+    ensures lender { SameLender sheet.old sheet.new }
 {
-    let trial = match sheet.open() {
-        Ok(trial) => trial,
-        Err(fault) => return Err(WholeFault::NotOpened(fault)),
-    };
+    let trial = sheet.open()?;
     // From here to the close no path may leave, so the answer is kept, with no `?`.
     let answer = sheet.check(list, first, records);
+    // Whether it is kept or withdrawn goes by the answer; the trial moves into one of them.
     let closed = if answer.is_ok() {
         sheet.keep(trial)
     } else {
         sheet.withdraw(trial)
     };
     // Checking opens and closes no trial, so this one is still the innermost.
-    match closed {
-        Ok(()) => answered(answer),
-        Err(_) => unreachable(),
-    }
-}
-
-// The answer of a check, as that of the whole list.
-fn answered(answer: Result<usize, ListFault>) -> Result<usize, WholeFault>
-    ensures { result ≡ checked_answer answer }
-{
-    match answer {
-        Ok(next) => Ok(next),
-        Err(fault) => Err(WholeFault::Stopped(fault)),
-    }
+    closed.unwrap();
+    answer.map_err(WholeFault::from)
 }

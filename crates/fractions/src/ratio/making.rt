@@ -9,6 +9,7 @@ use exact::fault::NumberFault;
 
 const LARGEST: u64 = 1_000_000;
 
+// Not one with its like in placing, over u32: one for both would be public, and had to say what a size past i32 gives.
 fn with_sign(minus: bool, m: u64) -> i32
     requires { m ≤ limit }
     ensures { result ≡ signed minus m }

@@ -1,4 +1,4 @@
-ghost use Rattle.std.specs.Prelude.{◌≡◌, ◌*◌, ◌≤◌, false, ◌-ℤ◌, ◌*ℤ◌, unsigned_abs};
+ghost use Rattle.std.specs.Prelude.{◌≡◌, false};
 ghost use Rattle.exact.specs.Fraction.{Equal};
 ghost use Rattle.algebra.specs.Prime.{Admits, Nought};
 ghost use Rattle.fractions.specs.Laws.{ratio_kind, ratio_laws};
@@ -7,21 +7,6 @@ use super::Ratio;
 use exact::fault::NumberFault;
 use exact::number::Number;
 
-// The operations on numbers of two and three factors up to a million: one to a function, so that each has a result that is known exactly.
-fn times(a: i64, b: i64) -> i64
-    requires { unsigned_abs a * unsigned_abs b ≤ 1000000000000000000 }
-    ensures { result ≡ a *ℤ b }
-{
-    a * b
-}
-
-fn minus(a: i64, b: i64) -> i64
-    requires { (unsigned_abs a ≤ 1000000000000000000) × (unsigned_abs b ≤ 1000000000000000000) }
-    ensures { result ≡ a -ℤ b }
-{
-    a - b
-}
-
 impl Number for Ratio {
     ghost kind = { ratio_kind };
 
@@ -29,30 +14,27 @@ impl Number for Ratio {
 
     ghost alike = { Equal };
 
-    ghost complete = { false };
+    const COMPLETE: bool = false;
+
+    ghost COMPLETE = { false };
 
     ghost laws = { ratio_laws };
 
-    const COMPLETE: bool = false;
-
-    fn is_complete() -> bool {
-        Self::COMPLETE
-    }
-
     fn whole(a: i32) -> Result<Ratio, NumberFault> {
-        Ratio::new(a as i64, 1)
+        Ratio::new(i64::from(a), 1)
     }
 
     fn less_times(self, b: Ratio, c: Ratio) -> Result<Ratio, NumberFault> {
-        let below = times(b.den as i64, c.den as i64);
-        let first = times(self.num as i64, below);
-        let second = times(self.den as i64, times(b.num as i64, c.num as i64));
-        Ratio::new(minus(first, second), times(self.den as i64, below))
+        let below = i64::from(b.den) * i64::from(c.den);
+        let first = i64::from(self.num) * below;
+        let second = i64::from(self.den) * (i64::from(b.num) * i64::from(c.num));
+        let top = first - second;
+        Ratio::new(top, i64::from(self.den) * below)
     }
 
     fn quotient(self, b: Ratio) -> Result<Ratio, NumberFault> {
-        let top = times(self.num as i64, b.den as i64);
-        Ratio::new(top, times(self.den as i64, b.num as i64))
+        let top = i64::from(self.num) * i64::from(b.den);
+        Ratio::new(top, i64::from(self.den) * i64::from(b.num))
     }
 
     fn is_zero(self) -> bool {
@@ -60,6 +42,6 @@ impl Number for Ratio {
     }
 
     fn same(self, b: Ratio) -> bool {
-        self.num == b.num && self.den == b.den
+        self == b
     }
 }

@@ -4,21 +4,20 @@ ghost use Rattle.ledger.specs.Listed.{listed, empty};
 use super::Ledger;
 use crate::entry::Entry;
 use crate::limits::MOST_SET_POINTS;
+use bounded::bounded::Bounded;
 
 impl Ledger {
     // A ledger with no entry. More than 48 set points are none.
     pub fn new(n: usize) -> Ledger
         ensures { listed result ≡ empty n }
     {
-        let entries = [Entry {
-            label: 0,
-            subject: 0,
-        }; 48];
         let n = if n <= MOST_SET_POINTS { n } else { 0 };
         Ledger {
             n,
-            count: 0,
-            entries,
+            entries: Bounded::new(Entry {
+                label: 0,
+                subject: 0,
+            }),
         }
     }
 
@@ -32,6 +31,6 @@ impl Ledger {
     pub fn entries(&self) -> &[Entry]
         ensures { result.now ≡ (listed self.now).entries }
     {
-        &self.entries[0..self.count]
+        self.entries.as_slice()
     }
 }

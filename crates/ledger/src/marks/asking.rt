@@ -2,14 +2,14 @@ ghost use Rattle.std.specs.Prelude.{◌≡◌, [], length};
 ghost use Rattle.ledger.specs.Marked.{marked};
 
 use super::Marks;
+use bounded::bounded::Bounded;
 
 impl Marks {
     pub fn new() -> Marks
         ensures { marked result ≡ [] }
     {
         Marks {
-            depth: 0,
-            counts: [0; 8],
+            counts: Bounded::new(0),
         }
     }
 
@@ -17,6 +17,6 @@ impl Marks {
     pub fn depth(&self) -> usize
         ensures { result ≡ length (marked self.now) }
     {
-        self.depth
+        self.counts.len()
     }
 }

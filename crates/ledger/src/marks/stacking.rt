@@ -1,32 +1,26 @@
-ghost use Rattle.std.specs.Prelude.{◌≡◌, ◌∷◌, if◌then◌else◌};
-ghost use Rattle.ledger.specs.Marked.{marked, may_push, newest_of, older};
+ghost use Rattle.std.specs.Prelude.{◌≡◌, ◌∷◌, is_ok, if◌then◌else◌};
+ghost use Rattle.ledger.specs.Marked.{marked, may_push, push_answer, newest_of, older};
 
 use super::Marks;
-use crate::limits::MOST_TRIALS;
+use crate::fault::LedgerFault;
 
 impl Marks {
-    // Marks that so many lines were held. Answers false, and marks nothing, where eight trials are open.
-    pub fn push(&mut self, held: usize) -> bool
-        ensures answer { result ≡ may_push (marked self.old) }
-        ensures after { marked self.new ≡ (if result then held ∷ marked self.old else marked self.old) }
+    // Marks that so many lines were held. Refused, and nothing marked, where eight trials are open.
+    pub fn push(&mut self, held: usize) -> Result<(), LedgerFault>
+        ensures answer { result ≡ push_answer (marked self.old) }
+        ensures asked { is_ok result ≡ may_push (marked self.old) }
+        ensures after { marked self.new ≡ (if is_ok result then held ∷ marked self.old else marked self.old) }
     {
-        if self.depth >= MOST_TRIALS {
-            return false;
-        }
-        self.counts[self.depth] = held;
-        self.depth += 1;
-        true
+        self.counts.push(held)?;
+        Ok(())
     }
 
     // Takes the newest mark away, and tells it.
+    #[tactic(auto, using(crate::proofs::Reversed::newest_last, crate::proofs::Reversed::older_rest), unfolding(crate::specs::Marked::marked))]
     pub fn pop(&mut self) -> Option<usize>
         ensures answer { result ≡ newest_of (marked self.old) }
         ensures after { marked self.new ≡ older (marked self.old) }
     {
-        if self.depth == 0 {
-            return None;
-        }
-        self.depth -= 1;
-        Some(self.counts[self.depth])
+        self.counts.pop()
     }
 }

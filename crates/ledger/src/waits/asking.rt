@@ -3,14 +3,14 @@ ghost use Rattle.ledger.specs.Waiting.{waiting, stands};
 
 use super::Waits;
 use crate::wait::Wait;
+use bounded::bounded::Bounded;
 
 impl Waits {
     pub fn new() -> Waits
         ensures { waiting result ≡ [] }
     {
         Waits {
-            count: 0,
-            table: [Wait { set_point: 0 }; 48],
+            waits: Bounded::new(Wait { set_point: 0 }),
         }
     }
 
@@ -18,11 +18,9 @@ impl Waits {
     pub fn stands(&self, q: usize) -> bool
         ensures { result ≡ stands q (waiting self.now) }
     {
-        for i in 0..self.count {
-            if self.table[i].set_point as usize == q {
-                return true;
-            }
-        }
-        false
+        self.waits
+            .as_slice()
+            .iter()
+            .any(|wait| usize::from(wait.set_point) == q)
     }
 }

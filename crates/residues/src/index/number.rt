@@ -6,11 +6,13 @@ use super::reciprocals::reciprocal_of;
 use exact::fault::NumberFault;
 use exact::number::Number;
 
-fn turned_to(z: i32) -> Index
-    ensures { result ≡ index z }
-{
-    Index {
-        teeth: z.rem_euclid(127) as u8,
+impl From<i32> for Index {
+    ghost from_gives = { λ z v. v ≡ index z };
+
+    fn from(z: i32) -> Index {
+        Index {
+            teeth: z.rem_euclid(127) as u8,
+        }
     }
 }
 
@@ -21,30 +23,26 @@ impl Number for Index {
 
     ghost alike = { index_alike };
 
-    ghost complete = { true };
+    const COMPLETE: bool = true;
+
+    ghost COMPLETE = { true };
 
     ghost laws = { index_laws };
 
-    const COMPLETE: bool = true;
-
-    fn is_complete() -> bool {
-        Self::COMPLETE
-    }
-
     fn whole(a: i32) -> Result<Index, NumberFault> {
-        Ok(turned_to(a))
+        Ok(Index::from(a))
     }
 
     fn less_times(self, b: Index, c: Index) -> Result<Index, NumberFault> {
         let product = i32::from(b.teeth) * i32::from(c.teeth);
-        Ok(turned_to(i32::from(self.teeth) - product))
+        Ok(Index::from(i32::from(self.teeth) - product))
     }
 
     fn quotient(self, b: Index) -> Result<Index, NumberFault> {
         if b.teeth == 0 {
             return Err(NumberFault::ByZero);
         }
-        Ok(turned_to(i32::from(self.teeth) * i32::from(reciprocal_of(b))))
+        Ok(Index::from(i32::from(self.teeth) * i32::from(reciprocal_of(b))))
     }
 
     fn is_zero(self) -> bool {
@@ -52,6 +50,6 @@ impl Number for Index {
     }
 
     fn same(self, b: Index) -> bool {
-        self.teeth == b.teeth
+        self == b
     }
 }

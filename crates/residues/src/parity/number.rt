@@ -1,16 +1,34 @@
 ghost use Rattle.std.specs.Prelude.{◌≡◌, true};
-ghost use Rattle.residues.specs.ParityKind.{turned_over, parity_kind, parity_admits, parity_alike, parity_laws};
+ghost use Rattle.residues.specs.ParityKind.{parity, turned_over, parity_kind, parity_admits, parity_alike, parity_laws};
 
 use super::Parity;
 use exact::fault::NumberFault;
 use exact::number::Number;
+use std::ops::Not;
 
-fn flipped(v: Parity) -> Parity
-    ensures { result ≡ turned_over v }
-{
-    match v {
-        Parity::Shut => Parity::Open,
-        Parity::Open => Parity::Shut,
+impl From<i32> for Parity {
+    ghost from_gives = { λ z v. v ≡ parity z };
+
+    fn from(z: i32) -> Parity {
+        if z.rem_euclid(2) == 0 {
+            Parity::Shut
+        } else {
+            Parity::Open
+        }
+    }
+}
+
+// 1 more, and 1 less.
+impl Not for Parity {
+    type Output = Parity;
+
+    ghost not_gives = { λ v w. w ≡ turned_over v };
+
+    fn not(self) -> Parity {
+        match self {
+            Parity::Shut => Parity::Open,
+            Parity::Open => Parity::Shut,
+        }
     }
 }
 
@@ -21,31 +39,21 @@ impl Number for Parity {
 
     ghost alike = { parity_alike };
 
-    ghost complete = { true };
+    const COMPLETE: bool = true;
+
+    ghost COMPLETE = { true };
 
     ghost laws = { parity_laws };
 
-    const COMPLETE: bool = true;
-
-    fn is_complete() -> bool {
-        Self::COMPLETE
-    }
-
     fn whole(a: i32) -> Result<Parity, NumberFault> {
-        if a.rem_euclid(2) == 0 {
-            Ok(Parity::Shut)
-        } else {
-            Ok(Parity::Open)
-        }
+        Ok(Parity::from(a))
     }
 
     fn less_times(self, b: Parity, c: Parity) -> Result<Parity, NumberFault> {
-        match b {
-            Parity::Shut => Ok(self),
-            Parity::Open => match c {
-                Parity::Shut => Ok(self),
-                Parity::Open => Ok(flipped(self)),
-            },
+        match (b, c) {
+            (Parity::Shut, _) => Ok(self),
+            (_, Parity::Shut) => Ok(self),
+            (Parity::Open, Parity::Open) => Ok(!self),
         }
     }
 
@@ -57,13 +65,10 @@ impl Number for Parity {
     }
 
     fn is_zero(self) -> bool {
-        match self {
-            Parity::Shut => true,
-            Parity::Open => false,
-        }
+        self == Parity::Shut
     }
 
     fn same(self, b: Parity) -> bool {
-        self.is_zero() == b.is_zero()
+        self == b
     }
 }

@@ -1,10 +1,11 @@
-ghost use Rattle.std.specs.Prelude.{◌≡◌, ℕ, ◌≤◌, true, length, drop, Err, ◌≢◌};
-ghost use Rattle.elimination.specs.Held.{used};
+ghost use Rattle.std.specs.Prelude.{◌≡◌, ℕ, ◌+◌, ◌/◌, ◌≤◌, true, length, Ok, Err, ◌≢◌};
 ghost use Rattle.elimination.specs.declared.fault.StepFault.{StepFault as StepFaultOf};
 ghost use Rattle.elimination.specs.declared.fault.SheetFault.TheVariants.{Numbers};
+ghost use Rattle.rows.specs.Row.{done};
 ghost use Rattle.sheet.specs.Contents.{contents};
 ghost use Rattle.sheet.specs.Stored.{stored, with_contents};
 ghost use Rattle.sheet.specs.Listing.{labels_fit, list_refusal, checking};
+ghost use Rattle.sheet.specs.Lent.{SameRest, SameLender};
 
 use super::Sheet;
 use crate::fault::ListFault;
@@ -12,23 +13,23 @@ use elimination::fault::SheetFault;
 use elimination::record::Record;
 use elimination::stating::fitting;
 use exact::number::Number;
+use ledger::limits::LAST_LABEL;
 
 const MOST_LINES: usize = 1_000;
-
-const LAST_LABEL: usize = 1_000_000;
 
 // Whether the labels of so many lines, from `first` on, are in range. An empty list has none.
 fn labels_fit(count: usize, first: u32) -> bool
     requires { count ≤ 1000 }
     ensures { result ≡ labels_fit count first }
 {
-    count == 0 || (first >= 1 && first as usize + count - 1 <= LAST_LABEL)
+    count == 0 || (first >= 1 && first as usize + count - 1 <= LAST_LABEL as usize)
 }
 
-// Why a list of `size` numbers is refused as a whole.
-fn pass_list(n: usize, size: usize, first: u32, room: usize) -> Result<(), SheetFault>
+// How many lines a list of `size` numbers has, or why it is refused as a whole.
+fn pass_list(n: usize, size: usize, first: u32, room: usize) -> Result<usize, SheetFault>
     requires { n ≤ 48 }
-    ensures { result ≡ list_refusal n size first room }
+    ensures answer { done result ≡ list_refusal n size first room }
+    ensures count { (m : ℕ) → result ≡ Ok m → m ≡ size / (n + 1) }
 {
     let width = n + 1;
     let count = size / width;
@@ -41,7 +42,7 @@ fn pass_list(n: usize, size: usize, first: u32, room: usize) -> Result<(), Sheet
     if !labels_fit(count, first) {
         return Err(SheetFault::Label);
     }
-    Ok(())
+    Ok(count)
 }
 
 impl<'a, K: Number> Sheet<'a, K> {
@@ -56,27 +57,23 @@ impl<'a, K: Number> Sheet<'a, K> {
         ensures answer { result ≡ (checking K.kind (contents self.old) list.now first records.old).answer }
         ensures contents { contents self.new ≡ (checking K.kind (contents self.old) list.now first records.old).contents }
         ensures records { records.new ≡ (checking K.kind (contents self.old) list.now first records.old).records }
-        ensures rest { drop (used (contents self.old).n) self.new.memory.now ≡ drop (used (contents self.old).n) self.old.memory.now }
-        ensures lender { self.new.memory.ghost_name ≡ self.old.memory.ghost_name }
+        ensures rest { SameRest self.old self.new }
+        ensures lender { SameLender self.old self.new }
         // The open trials and the waits are as they were.
         ensures apart { stored self.new ≡ with_contents (stored self.old) (contents self.new) }
-        ensures always { K.complete ≡ true → (i : ℕ) (f : StepFaultOf) → result ≢ Err (record { index = i; fault = Numbers f }) }
+        ensures always { K.COMPLETE ≡ true → (i : ℕ) (f : StepFaultOf) → result ≢ Err (record { index = i; fault = Numbers f }) }
     {
-        let have = self.memory.len();
-        let (n, _) = fitting(&self.ledger, have);
-        if let Err(fault) = pass_list(n, list.len(), first, records.len()) {
-            return Err(ListFault { index: 0, fault });
-        }
-        let width = n + 1;
-        let count = list.len() / width;
-        for i in 0..count {
-            let line = &list[i * width..i * width + width];
-            if let Err(fault) = self.state(line, first + i as u32, records) {
-                return Err(ListFault {
+        let n = fitting(&self.ledger, self.memory.len()).n;
+        let count = pass_list(n, list.len(), first, records.len()).map_err(|fault| ListFault {
+            index: 0,
+            fault,
+        })?;
+        for (i, line) in list.chunks_exact(n + 1).enumerate() {
+            self.state(line, first + i as u32, records)
+                .map_err(|fault| ListFault {
                     index: i + 1,
                     fault,
-                });
-            }
+                })?;
         }
         Ok(count + 1)
     }

@@ -1,8 +1,8 @@
-ghost use Rattle.std.specs.Prelude.{◌≡◌, drop};
-ghost use Rattle.elimination.specs.Held.{used};
+ghost use Rattle.std.specs.Prelude.{◌≡◌};
 ghost use Rattle.sheet.specs.Contents.{contents};
 ghost use Rattle.sheet.specs.Stored.{stored};
 ghost use Rattle.sheet.specs.Trials.{innermost, open_answer, open_after, closing, close_answer, keep_after, withdraw_after};
+ghost use Rattle.sheet.specs.Lent.{SameRest, SameLender, SameMemory};
 
 use super::Sheet;
 use crate::fault::TrialFault;
@@ -13,18 +13,15 @@ use exact::number::Number;
 
 impl<'a, K: Number> Sheet<'a, K> {
     // Opens a trial inside those that are open. Refused where eight are.
+    #[tactic(auto, using(std::proofs::lemmas::Bool::Decides::nat_tests, crate::proofs::Stating::held_count), unfolding(crate::specs::Contents::contents, crate::specs::Stored::stored, crate::specs::Trials::open_answer, crate::specs::Trials::open_after))]
     pub fn open(&mut self) -> Result<Trial, TrialFault>
         ensures answer { result ≡ open_answer (stored self.old) }
         ensures stored { stored self.new ≡ open_after (stored self.old) }
-        ensures memory { self.new.memory.now ≡ self.old.memory.now }
-        ensures lender { self.new.memory.ghost_name ≡ self.old.memory.ghost_name }
+        ensures memory { SameMemory self.old self.new }
+        ensures lender { SameLender self.old self.new }
     {
-        let have = self.memory.len();
-        let (_, entries) = fitting(&self.ledger, have);
-        let held = entries.len();
-        if !self.marks.push(held) {
-            return Err(TrialFault::Depth);
-        }
+        let held = fitting(&self.ledger, self.memory.len()).entries.len();
+        self.marks.push(held).map_err(|_| TrialFault::Depth)?;
         Ok(Trial {
             number: self.number,
             depth: self.marks.depth(),
@@ -35,8 +32,8 @@ impl<'a, K: Number> Sheet<'a, K> {
     pub fn keep(&mut self, trial: Trial) -> Result<(), HandedBack>
         ensures answer { result ≡ close_answer (stored self.old) trial }
         ensures stored { stored self.new ≡ keep_after (stored self.old) trial }
-        ensures memory { self.new.memory.now ≡ self.old.memory.now }
-        ensures lender { self.new.memory.ghost_name ≡ self.old.memory.ghost_name }
+        ensures memory { SameMemory self.old self.new }
+        ensures lender { SameLender self.old self.new }
     {
         let _ = self.close(trial)?;
         Ok(())
@@ -44,25 +41,25 @@ impl<'a, K: Number> Sheet<'a, K> {
 
     // Closes the innermost trial, and leaves the lines that were held when it was opened: they are stated again, from none on. Any other
     // trial is handed back.
+    #[tactic(auto, using(crate::proofs::Opened::refused_stays, crate::proofs::Opened::closed_is), unfolding(crate::specs::Contents::contents, crate::specs::Stored::stored))]
     pub fn withdraw(&mut self, trial: Trial) -> Result<(), HandedBack>
         ensures answer { result ≡ close_answer (stored self.old) trial }
         ensures stored { stored self.new ≡ withdraw_after (stored self.old) K.kind trial }
-        ensures rest { drop (used (contents self.old).n) self.new.memory.now ≡ drop (used (contents self.old).n) self.old.memory.now }
-        ensures lender { self.new.memory.ghost_name ≡ self.old.memory.ghost_name }
+        ensures rest { SameRest self.old self.new }
+        ensures lender { SameLender self.old self.new }
     {
         let held = self.close(trial)?;
-        let mut ledger = self.ledger;
-        restate(&mut ledger, self.memory, held);
-        self.ledger = ledger;
+        restate(&mut self.ledger, self.memory, held);
         Ok(())
     }
 
     // Closes the innermost trial, and tells how many lines were held when it was opened. Any other trial is handed back.
+    #[tactic(auto, using(std::proofs::lemmas::Bool::Decides::nat_tests, crate::proofs::Opened::has_newest, crate::proofs::Opened::newest_some), unfolding(crate::specs::Contents::contents, crate::specs::Stored::stored, crate::specs::Trials::closing, crate::specs::Trials::keep_after))]
     fn close(&mut self, trial: Trial) -> Result<usize, HandedBack>
         ensures answer { result ≡ closing (stored self.old) trial }
         ensures stored { stored self.new ≡ keep_after (stored self.old) trial }
-        ensures memory { self.new.memory.now ≡ self.old.memory.now }
-        ensures lender { self.new.memory.ghost_name ≡ self.old.memory.ghost_name }
+        ensures memory { SameMemory self.old self.new }
+        ensures lender { SameLender self.old self.new }
     {
         if !self.is_innermost(&trial) {
             return Err(HandedBack {
@@ -74,20 +71,15 @@ impl<'a, K: Number> Sheet<'a, K> {
             number: _,
             depth: _,
         } = trial;
-        match self.marks.pop() {
-            Some(held) => Ok(held),
-            None => unreachable(),
-        }
+        Ok(self.marks.pop().unwrap())
     }
 
     // Whether a trial is the one of this sheet that was opened last, of those that are open.
+    #[tactic(auto, using(std::proofs::lemmas::Bool::Decides::nat_tests), unfolding(crate::specs::Stored::stored, crate::specs::Contents::contents))]
     fn is_innermost(&self, trial: &Trial) -> bool
         ensures { result ≡ innermost (stored self.now) trial.now }
     {
         let depth = self.marks.depth();
-        if depth == 0 {
-            return false;
-        }
-        trial.number == self.number && trial.depth == depth
+        depth > 0 && trial.number == self.number && trial.depth == depth
     }
 }

@@ -1,15 +1,14 @@
 use Rattle.std.proofs.Common.{arith}
-use Rattle.cutting.proofs.Headings.{no_first, no_second, one_digit, two_digits}
+use Rattle.cutting.proofs.Headings.{no_first, no_second, passed}
 use Rattle.cutting.proofs.read.heading_of.Goals as goal
 
-pub returns-in_err-n : goal.returns-in_err-n
-returns-in_err-n c = rw c.from_residual-in_err-n.ensures (no_first c.args.line.now c.in_err-n.ensures)
+pub returns-in_err-digit-in-32 : goal.returns-in_err-digit-in-32
+returns-in_err-digit-in-32 c = let e = c.in_err-digit-in-32.ensures in passed c.args.line.now c.from_residual.result _ c.from_residual.ensures.1 e.0 (no_first c.args.line.now e.1)
 
-pub returns-then-line-eq3 : goal.returns-then-line-eq3
-returns-then-line-eq3 c = one_digit c.args.line.now c.in_ok-kind.kind c.in_ok-n.n c.if-line-eq3.true c.in_ok-kind.ensures (omega arith) c.in_ok-n.ensures.0 c.in_ok-n.ensures.1
+pub returns-in_err-digit-in-32-2 : goal.returns-in_err-digit-in-32-2
+returns-in_err-digit-in-32-2 c = let e = c.in_err-digit-in-32-2.ensures in passed c.args.line.now c.from_residual-in_err-digit-in-32-2.result _ c.from_residual-in_err-digit-in-32-2.ensures.1 e.0 (no_first c.args.line.now e.1)
 
-pub returns-in_err-ones : goal.returns-in_err-ones
-returns-in_err-ones c = rw c.from_residual-in_err-ones.ensures (no_second c.args.line.now c.if-line-eq3.false c.in_err-ones.ensures)
-
-pub returns : goal.returns
-returns c = two_digits c.args.line.now c.in_ok-kind.kind c.in_ok-n.n c.in_ok-ones.ones (omega arith) c.in_ok-kind.ensures (omega arith) c.in_ok-n.ensures.0 c.in_ok-ones.ensures.0 c.in_ok-n.ensures.1 c.in_ok-ones.ensures.1
+pub returns-in_err-digit-in-32-2-2 : goal.returns-in_err-digit-in-32-2-2
+returns-in_err-digit-in-32-2-2 c =
+    let e = c.in_err-digit-in-32-2-2.ensures in
+    passed c.args.line.now c.from_residual-in_err-digit-in-32-2-2.result _ c.from_residual-in_err-digit-in-32-2-2.ensures.1 e.0 (no_second c.args.line.now (omega (arith, c.in-32-2.len_at_least)) e.1)

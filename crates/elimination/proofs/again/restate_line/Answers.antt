@@ -1,149 +1,93 @@
-use Rattle.std.proofs.Common.{◌≡◌, ℕ, ◌+◌, ◌<◌, ◌≤◌, length, take, drop, Ok, sym, ap, ◌∙◌, subst, arith}
+use Rattle.std.proofs.Common.{◌≡◌, ℕ, ◌+◌, [], ◌∷◌, ◌++◌, length, take, drop, Some, Ok, sym, ap, ◌∙◌, subst, ap₂, arith}
+use Rattle.std.specs.Option.{option_flatten}
+use Rattle.std.specs.Result.{result_ok}
 use Rattle.ledger.specs.Listed.{listed}
-use Rattle.elimination.specs.Held.{needed, lines_place, line_place, line_at, size_in, held_in}
-use Rattle.elimination.specs.Outcome.{stuck, spent, solved}
-use Rattle.elimination.specs.Working.{working, Remains}
-use Rattle.elimination.specs.Working.{HasPlace as Findable}
-use Rattle.elimination.proofs.Places.{rest_past}
-use Rattle.elimination.proofs.Verdicts.{used_all}
+use Rattle.elimination.specs.declared.fault.StepFault.{StepFault}
+use Rattle.elimination.specs.Held.{lines_place, line_place, line_at, size_in, entries_in, held_in, lines_of, row_of}
+use Rattle.elimination.specs.Outcome.{solved, verdict_of}
 use Rattle.elimination.specs.Again.{taken_for}
-use Rattle.elimination.specs.Stating.{held_after, entered}
+use Rattle.elimination.specs.Stating.{held_after, entered, HasPlaceFor, Answers}
 use Rattle.elimination.specs.Steps.{steps}
-use Rattle.elimination.specs.Outcome.{verdict_of}
-use Rattle.elimination.proofs.Remaining.{place_free}
-use Rattle.elimination.proofs.Outcomes.{found_fault, found_none, found_some, spent_unmoved, spent_untaken}
-use Rattle.elimination.proofs.Worked.{lines_kept, begun_held, verdict_is, taken_held}
+use Rattle.elimination.specs.Working.{Left}
+use Rattle.elimination.proofs.Concluding.{lines_kept, outcome, verdict_is, line_entered}
+use Rattle.elimination.proofs.Frames.{only_lines}
+use Rattle.elimination.proofs.Outcomes.{found_some, subject_found, found_taken, untaken_left, untaken_moves, untaken_is}
+use Rattle.elimination.proofs.Places.{rest_past}
+use Rattle.elimination.proofs.Shown.{has_place}
+use Rattle.elimination.proofs.Worked.{steps_are, still_shown, entered_shown}
 use Rattle.elimination.proofs.again.restate_line.Goals as goal
 
-pub open_row_again-requires : goal.open_row_again-requires
-open_row_again-requires g c =
-    let n = c.fitting-n.result.0 in
-    let size = c.fitting-n.ensures.size in
-    let place : c.args.place < n = subst (λ k. c.args.place < k) (sym size) c.requires.place in
-    record {
-      few = c.fitting-n.ensures.few;
-      held = c.fitting-n.ensures.held;
-      place = place;
-      room = subst (λ k. k ≤ length c.args.memory.now) (used_all n (omega arith)) c.fitting-n.ensures.room;
-    }
-
-pub move_line-requires : goal.move_line-requires
-move_line-requires g c =
-    let n = c.fitting-n.result.0 in
-    let size = c.fitting-n.ensures.size in
-    let place : c.args.place < n = subst (λ k. c.args.place < k) (sym size) c.requires.place in
-    record {
-      few = c.fitting-n.ensures.few;
-      order = subst (λ xs. length xs ≤ c.args.place) (sym c.fitting-n.ensures.entries) c.requires.held;
-      place = place;
-      room = subst (λ k. needed n ≤ k) (sym (c.work.auto.memory ∙ c.open_row_again.auto.memory)) (subst (λ k. k ≤ length c.args.memory.now) (used_all n (omega arith)) c.fitting-n.ensures.room);
-    }
-
-pub returns-in-Some : goal.returns-in-Some
-returns-in-Some g c =
+pub returns : goal.returns
+returns g c =
     let K = g.K.Number.kind in
     let l = listed c.args.ledger.now in
     let m = c.args.memory.now in
-    let m₁ = c.open_row_again.new.memory in
-    let m₂ = c.work.new.memory in
-    let n = c.fitting-n.result.0 in
-    let es = c.fitting-n.result.1.now in
-    let N = size_in l (length m) in
-    let size = c.fitting-n.ensures.size in
-    let entries = c.fitting-n.ensures.entries in
-    let held = c.fitting-n.ensures.held in
+    let h = c.fitting-held.result in
+    let n = h.n in
+    let size = c.fitting-held.ensures.size in
+    let entries = c.fitting-held.ensures.entries in
     let place = c.args.place in
     let line = line_at n m place in
-    let same₁ = c.open_row_again.auto.memory in
-    let only = c.open_row_again.ensures.only in
-    let row = c.open_row_again.ensures.row in
-    let own : line_at N m place ≡ line = ap (λ k. line_at k m place) (sym size) in
-    let lines = lines_kept K l m n es size entries held line m₁ same₁ only row m₂ c.work.ensures.lines in
+    let m₁ = c.open_row_again.new.memory in
+    let m₂ = c.solve.new.memory in
+    let same = c.solve.auto.memory ∙ c.open_row_again.auto.memory in
+    let x = c.open_row_again.ensures in
+    let o = outcome K h m m₁ line x.row x.only in
+    let is : (label : ℕ) → steps K (size_in l (length m)) (held_in l m) label (line_at (size_in l (length m)) m place) ≡ verdict_of K n (lines_of h m) label line o =
+    λ label. steps_are l m h size entries K label place ∙ verdict_is K h m m₁ line x.row x.only label in
+    let lines : drop (lines_place n) m₂ ≡ drop (lines_place n) m = c.solve.ensures.lines ∙ only_lines n (length h.entries.now) m m₁ x.only h.held in
     let later : drop (line_place n (place + 1)) m₂ ≡ drop (line_place n (place + 1)) m = rest_past (lines_place n) (line_place n (place + 1)) (omega arith) m₂ m lines in
     let m₃ = c.move_line.new.memory in
-    let same₂ = c.work.auto.memory ∙ same₁ in
-    let same₃ = c.move_line.auto.memory ∙ same₂ in
-    let q = c.in-Some.subject in
-    let x = c.in-Ok.ensures in
-    let may = subst (λ o. Findable l (Ok o)) c.in-Some.is x.proper in
-    let out = found_some (working K l m₁) q (sym x.answer ∙ ap Ok c.in-Some.is) in
-    let is : (label : ℕ) → steps K N (held_in l m) label (line_at N m place) ≡ verdict_of K N (held_in l m) label line (solved q out.0 out.1) = λ label. ap (steps K N (held_in l m) label) own ∙ verdict_is K l m n es size entries held line m₁ same₁ only row label ∙ ap (verdict_of K N (held_in l m) label line) out.2 in
-    let left : Remains (solved q out.0 out.1) l m₁ m₂ = subst (λ o. Remains o l m₁ m₂) out.2 x.left in
-    let free = place_free l (length m) q (let b = c.requires.place in omega arith) may in
-    let fewer : length es < n = subst (λ k. length es < k) (sym size) (subst (λ xs. length xs < N) (sym entries) free) in
-    let new = taken_held K l m n es size entries held line m₁ same₁ only row m₂ m₃ same₂ same₃ q out.0 out.1 left fewer c.move_line.ensures.others (c.move_line.ensures.line ∙ ap (λ l. take (n + 1) l) (rest_past (lines_place n) (line_place n place) (omega arith) m₂ m lines)) in
-    record {
-      answer = λ label. sym (ap taken_for (is label));
-      proper = may;
-      held = λ label. subst (λ u. held_in (entered u label l) m₃ ≡ held_after u (held_in l m)) (sym (is label)) (new label);
-      later = subst (λ k. drop (line_place k (place + 1)) m₃ ≡ drop (line_place k (place + 1)) m) size (c.move_line.ensures.later ∙ later);
-    }
-
-pub returns-in-None : goal.returns-in-None
-returns-in-None g c =
-    let K = g.K.Number.kind in
-    let l = listed c.args.ledger.now in
-    let m = c.args.memory.now in
-    let m₁ = c.open_row_again.new.memory in
-    let m₂ = c.work.new.memory in
-    let n = c.fitting-n.result.0 in
-    let es = c.fitting-n.result.1.now in
-    let N = size_in l (length m) in
-    let size = c.fitting-n.ensures.size in
-    let entries = c.fitting-n.ensures.entries in
-    let held = c.fitting-n.ensures.held in
-    let place = c.args.place in
-    let line = line_at n m place in
-    let same₁ = c.open_row_again.auto.memory in
-    let only = c.open_row_again.ensures.only in
-    let row = c.open_row_again.ensures.row in
-    let own : line_at N m place ≡ line = ap (λ k. line_at k m place) (sym size) in
-    let lines = lines_kept K l m n es size entries held line m₁ same₁ only row m₂ c.work.ensures.lines in
-    let later : drop (line_place n (place + 1)) m₂ ≡ drop (line_place n (place + 1)) m = rest_past (lines_place n) (line_place n (place + 1)) (omega arith) m₂ m lines in
-    let x = c.in-Ok.ensures in
-    let out = found_none (working K l m₁) (sym x.answer ∙ ap Ok c.in-None.is) in
+    let q = c.in_ok-subject.subject in
+    let y = c.solve.ensures in
+    let flat : subject_found o ≡ c.flatten.result = ap (λ r. option_flatten (result_ok r)) (sym y.answer) ∙ ap option_flatten (sym c.ok.ensures.value) ∙ sym c.flatten.ensures in
+    let some = found_taken o q (flat ∙ c.in_ok-subject.was) in
+    let z = c.move_line.ensures in
+    let out = found_some o q some in
     let w = out.0 in
-    let is : (label : ℕ) → steps K N (held_in l m) label (line_at N m place) ≡ verdict_of K N (held_in l m) label line (spent w) = λ label. ap (steps K N (held_in l m) label) own ∙ verdict_is K l m n es size entries held line m₁ same₁ only row label ∙ ap (verdict_of K N (held_in l m) label line) out.1 in
-    let left : Remains (spent w) l m₁ m₂ = subst (λ o. Remains o l m₁ m₂) out.1 x.left in
-    let kept : held_in l m₂ ≡ held_in l m = left.0 ∙ begun_held K l m n es size entries held line m₁ same₁ only row in
+    let others = out.1 in
+    let left : (lines_of h m₂ ≡ others) × (row_of h m₂ ≡ w) = subst (λ u. Left u h m₁ m₂) out.2 y.left in
+    let proper : Answers {E = StepFault} n (length h.entries.now) (Ok (Some q)) = subst (Answers {E = StepFault} n (length h.entries.now)) (y.answer ∙ some) y.proper in
+    let own : line_at n m₃ (length h.entries.now) ≡ line = z.line ∙ ap (take (n + 1)) (rest_past (lines_place n) (line_place n place) (omega arith) m₂ m lines) in
+    let new : (label : ℕ) → held_in (entered (verdict_of K n (lines_of h m) label line (solved q w others)) label l) m₃ ≡ held_after (verdict_of K n (lines_of h m) label line (solved q w others)) (held_in l m) =
+    λ label. entered_shown l m h size entries m₃ (c.move_line.auto.memory ∙ same) label q (let b = proper.0 in omega arith) ∙ line_entered h m₂ m₃ z.others label q
+    ∙ ap₂ (λ gs v. gs ++ record { label = label; subject = q; line = v; row = row_of h m₂ } ∷ []) left.0 own
+    ∙ ap (λ r. others ++ record { label = label; subject = q; line = line; row = r } ∷ []) left.1 in
     record {
-      answer = λ label. sym (ap taken_for (is label) ∙ spent_untaken K N (held_in l m) label line w);
-      proper = tt;
-      held = λ label. let unmoved = spent_unmoved K N (held_in l m) label line w l (held_in l m) in
-          subst (λ u. held_in (entered u label l) m₂ ≡ held_after u (held_in l m)) (sym (is label)) (ap (λ t. held_in t m₂) unmoved.0 ∙ kept ∙ sym unmoved.1);
-      later = subst (λ k. drop (line_place k (place + 1)) m₂ ≡ drop (line_place k (place + 1)) m) size later;
+      answer = λ label. sym (ap taken_for (is label ∙ ap (verdict_of K n (lines_of h m) label line) out.2));
+      proper = has_place l (length m) {E = StepFault} (Ok (Some q)) (subst (λ k. Answers {E = StepFault} k (length (entries_in l (length m))) (Ok (Some q))) size (subst (λ xs. Answers {E = StepFault} n (length xs) (Ok (Some q))) entries proper));
+      held = λ label. subst (λ u. held_in (entered u label l) m₃ ≡ held_after u (held_in l m)) (sym (is label ∙ ap (verdict_of K n (lines_of h m) label line) out.2)) (new label);
+      later = subst (λ k. drop (line_place k (place + 1)) m₃ ≡ drop (line_place k (place + 1)) m) size (z.later ∙ later);
     }
 
-pub returns-in_default : goal.returns-in_default
-returns-in_default g c =
+pub returns-in_err-subject : goal.returns-in_err-subject
+returns-in_err-subject g c =
     let K = g.K.Number.kind in
     let l = listed c.args.ledger.now in
     let m = c.args.memory.now in
-    let m₁ = c.open_row_again.new.memory in
-    let m₂ = c.work.new.memory in
-    let n = c.fitting-n.result.0 in
-    let es = c.fitting-n.result.1.now in
-    let N = size_in l (length m) in
-    let size = c.fitting-n.ensures.size in
-    let entries = c.fitting-n.ensures.entries in
-    let held = c.fitting-n.ensures.held in
+    let h = c.fitting-held.result in
+    let n = h.n in
+    let size = c.fitting-held.ensures.size in
+    let entries = c.fitting-held.ensures.entries in
     let place = c.args.place in
     let line = line_at n m place in
-    let same₁ = c.open_row_again.auto.memory in
-    let only = c.open_row_again.ensures.only in
-    let row = c.open_row_again.ensures.row in
-    let own : line_at N m place ≡ line = ap (λ k. line_at k m place) (sym size) in
-    let lines = lines_kept K l m n es size entries held line m₁ same₁ only row m₂ c.work.ensures.lines in
+    let m₁ = c.open_row_again.new.memory in
+    let m₂ = c.solve.new.memory in
+    let same = c.solve.auto.memory ∙ c.open_row_again.auto.memory in
+    let x = c.open_row_again.ensures in
+    let o = outcome K h m m₁ line x.row x.only in
+    let is : (label : ℕ) → steps K (size_in l (length m)) (held_in l m) label (line_at (size_in l (length m)) m place) ≡ verdict_of K n (lines_of h m) label line o =
+    λ label. steps_are l m h size entries K label place ∙ verdict_is K h m m₁ line x.row x.only label in
+    let lines : drop (lines_place n) m₂ ≡ drop (lines_place n) m = c.solve.ensures.lines ∙ only_lines n (length h.entries.now) m m₁ x.only h.held in
     let later : drop (line_place n (place + 1)) m₂ ≡ drop (line_place n (place + 1)) m = rest_past (lines_place n) (line_place n (place + 1)) (omega arith) m₂ m lines in
-    let x = c.in_default.ensures in
-    let f = c.in_default.field-0 in
-    let out = found_fault (working K l m₁) f (sym x.answer) in
-    let is : (label : ℕ) → steps K N (held_in l m) label (line_at N m place) ≡ verdict_of K N (held_in l m) label line (stuck f) = λ label. ap (steps K N (held_in l m) label) own ∙ verdict_is K l m n es size entries held line m₁ same₁ only row label ∙ ap (verdict_of K N (held_in l m) label line) out in
-    let left : Remains (stuck f) l m₁ m₂ = subst (λ o. Remains o l m₁ m₂) out x.left in
-    let kept : held_in l m₂ ≡ held_in l m = left ∙ begun_held K l m n es size entries held line m₁ same₁ only row in
+    let y = c.solve.ensures in
+    let flat : subject_found o ≡ c.flatten.result = ap (λ r. option_flatten (result_ok r)) (sym y.answer) ∙ ap option_flatten (sym c.ok.ensures.value) ∙ sym c.flatten.ensures in
+    let none = flat ∙ c.in_err-subject.was in
+    let kept = still_shown l m h size entries m₂ same (untaken_left o none h m₁ m₂ y.left ∙ lines_kept K h m m₁ line x.row x.only) in
     record {
-      answer = λ label. sym (ap taken_for (is label));
-      proper = tt;
-      held = λ label. subst (λ u. held_in (entered u label l) m₂ ≡ held_after u (held_in l m)) (sym (is label)) kept;
+      answer = λ label. c.from_residual.ensures ∙ sym (ap taken_for (is label) ∙ untaken_is o none K n (lines_of h m) label line);
+      proper = subst (HasPlaceFor l) (sym c.from_residual.ensures) tt;
+      held = λ label. let unmoved = untaken_moves o none K n (lines_of h m) label line l (held_in l m) in
+          subst (λ u. held_in (entered u label l) m₂ ≡ held_after u (held_in l m)) (sym (is label)) (ap (λ t. held_in t m₂) unmoved.0 ∙ kept ∙ sym unmoved.1);
       later = subst (λ k. drop (line_place k (place + 1)) m₂ ≡ drop (line_place k (place + 1)) m) size later;
     }

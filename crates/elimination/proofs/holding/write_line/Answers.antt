@@ -1,56 +1,43 @@
-use Rattle.std.proofs.Common.{◌≡◌, ℕ, ◌+◌, ◌-◌, ◌≤◌, List, map, length, take, drop, sym, ap, ◌∙◌, subst, arith, length-drop, length-take-le, rules}
-use borrow.Rule.Slice.PartMut.{put_mid}
+use Rattle.std.proofs.Common.{◌≡◌, ◌+◌, ◌≤◌, map, length, take, drop, sym, ap, ◌∙◌, subst, arith, length-drop, length-take-le}
+use Rattle.std.specs.Result.{is_ok}
 use Rattle.std.proofs.lemmas.Slice.{take-put_mid_below, drop-put_mid}
 use Rattle.exact.specs.Answers.{value_of}
 use Rattle.rows.specs.Row.{done, Leaves}
-use Rattle.rows.proofs.Loads.{loaded, no_row_fault}
+use Rattle.rows.proofs.Loads.{loaded}
 use Rattle.elimination.specs.Held.{needed, line_place, line_at}
 use Rattle.elimination.proofs.Frames.{part_own}
 use Rattle.elimination.proofs.Places.{line_fits}
+use Rattle.elimination.proofs.Ranges.{part, put}
 use Rattle.elimination.proofs.holding.write_line.Goals as goal
 
--- the part that the line has
-part_length : {V : Type 0} (l n : ℕ) (m : List V) → l + (n + 1) ≤ length m → length (take (l + (n + 1) - l) (drop l m)) ≡ n + 1
-part_length l n m h = length-take-le (l + (n + 1) - l) (drop l m) (let d = length-drop l m in omega arith) ∙ omega arith
-
-pub offset_bounds-memory-from : goal.offset_bounds-memory-from
-offset_bounds-memory-from g c =
-    let f = line_fits c.args.n c.args.h c.requires.place in
-    let inside : line_place c.args.n c.args.h + (c.args.n + 1) ≤ length c.args.memory.now = omega (arith, f, c.requires.room) in
-    search rules
-
-pub slice_bounds-load-end : goal.slice_bounds-load-end
-slice_bounds-load-end g c =
-    let f = line_fits c.args.n c.args.h c.requires.place in
-    let inside : line_place c.args.n c.args.h + (c.args.n + 1) ≤ length c.args.memory.now = omega (arith, f, c.requires.room) in
-    search rules
-
-pub unreachable-requires : goal.unreachable-requires
-unreachable-requires g c =
+pub unwrap-requires : goal.unwrap-requires
+unwrap-requires g c =
     let a = c.args in
-    let l = line_place a.n a.h in
-    let f = line_fits a.n a.h c.requires.place in
-    let size = part_length l a.n a.memory.now (omega (arith, f, c.requires.room)) in
-    let made = loaded g.K.Number.laws a.line.now c.requires.small (take (l + (a.n + 1) - l) (drop l a.memory.now)) (size ∙ sym c.requires.long) in
-    no_row_fault c.in-Err.field-0 (c.in-Err.ensures.answer ∙ ap done made)
+    let n = a.held.n in
+    let l = line_place n (length a.held.entries.now) in
+    let f = line_fits n (length a.held.entries.now) c.requires.place in
+    let size : length (take (n + 1) (drop l a.memory.now)) ≡ n + 1 = length-take-le (n + 1) (drop l a.memory.now) (let d = length-drop l a.memory.now in omega (arith, f, c.requires.room, d)) in
+    let part_is = part (a.held.n + 1) c.line.ensures.start c.line.ensures.end a.memory.now in
+    ap is_ok (c.load.ensures.answer ∙ ap done (loaded g.K.Number.laws a.line.now c.requires.small _ (ap length part_is ∙ size ∙ sym c.requires.long)))
 
 pub returns : goal.returns
 returns g c =
     let a = c.args in
-    let n = a.n in
+    let n = a.held.n in
     let m = a.memory.now in
-    let l = line_place n a.h in
-    let f = line_fits n a.h c.requires.place in
+    let h = length a.held.entries.now in
+    let l = line_place n h in
+    let f = line_fits n h c.requires.place in
     let inside : l + (n + 1) ≤ length m = omega (arith, f, c.requires.room) in
-    let size = part_length l n m inside in
-    let made = loaded g.K.Number.laws a.line.now c.requires.small (take (l + (n + 1) - l) (drop l m)) (size ∙ sym c.requires.long) in
+    let size : length (take (n + 1) (drop l m)) ≡ n + 1 = length-take-le (n + 1) (drop l m) (let d = length-drop l m in omega (arith, inside, d)) in
+    let part_is = part (a.held.n + 1) c.line.ensures.start c.line.ensures.end m in
+    let made = loaded g.K.Number.laws a.line.now c.requires.small _ (ap length part_is ∙ size ∙ sym c.requires.long) in
     let v = c.load.new.w in
     let is : v ≡ map (value_of g.K.Number.kind) a.line.now = subst (λ r. Leaves r v) made c.load.ensures.made in
-    let width : l + (n + 1) - l ≡ n + 1 = omega arith in
-    let long : length v ≡ n + 1 = c.load.auto.w ∙ size in
-    let new : put_mid l (l + (n + 1) - l) m v ≡ put_mid l (n + 1) m v = ap (λ k. put_mid l k m v) width in
+    let long : length v ≡ n + 1 = c.load.auto.w ∙ ap length part_is ∙ size in
+    let new = put (a.held.n + 1) c.line.ensures.start c.line.ensures.end m v in
     record {
-      line = ap (λ x. line_at n x a.h) new ∙ part_own l (n + 1) m v inside long ∙ is;
+      line = ap (λ x. line_at n x h) new ∙ part_own l (n + 1) m v inside long ∙ is;
       others = ap (take l) new ∙ take-put_mid_below l (n + 1) m v l (omega arith) (omega arith);
       rest = ap (drop (needed n)) new ∙ drop-put_mid l (n + 1) m v (needed n) f (omega arith) long;
     }

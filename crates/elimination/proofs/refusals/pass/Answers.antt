@@ -1,45 +1,32 @@
-use Rattle.std.proofs.Common.{◌≡◌, ◌+◌, length, sym, refl, ap, ◌∙◌, arith}
-use Rattle.elimination.specs.Refusals.{limited}
-use Rattle.elimination.proofs.Refused.{no_fault, length_refused, room_refused, low_refused, high_refused, by_limits}
+use Rattle.std.proofs.Common.{rules, ◌≡◌, true, false, length, sym, ap, ◌∙◌, arith}
+use Rattle.elimination.specs.Refusals.{label_fits, limited}
+use Rattle.elimination.proofs.Refused.{length_refused, room_refused, label_refused, by_limits}
 use Rattle.elimination.proofs.refusals.pass.Goals as goal
 
-pub returns-then-line-n : goal.returns-then-line-n
-returns-then-line-n c =
+pub returns-then-line-held-clause-answer : goal.returns-then-line-held-clause-answer
+returns-then-line-held-clause-answer c =
     let a = c.args in
-    record { answer = sym (length_refused a.n a.h a.line.now a.label a.room (λ e. c.if-line-n.true (omega arith))); passes = λ e. absurd (no_fault _ e) }
+    sym (length_refused a.held.n (length a.held.entries.now) a.line.now a.label a.room (λ e. c.if-line-held.true (omega arith)))
 
-pub returns-then-room-h : goal.returns-then-room-h
-returns-then-room-h c =
+pub returns-then-room-held-clause-answer : goal.returns-then-room-held-clause-answer
+returns-then-room-held-clause-answer c =
     let a = c.args in
-    let long : length a.line.now ≡ a.n + 1 = omega arith in
-    record { answer = sym (room_refused a.n a.h a.line.now a.label a.room long c.if-room-h.true); passes = λ e. absurd (no_fault _ e) }
+    sym (room_refused a.held.n (length a.held.entries.now) a.line.now a.label a.room (omega arith) c.if-room-held.true)
 
-pub returns-then-label-lt1 : goal.returns-then-label-lt1
-returns-then-label-lt1 c =
+pub returns-then-not-contains-clause-answer : goal.returns-then-not-contains-clause-answer
+returns-then-not-contains-clause-answer c =
     let a = c.args in
-    let long : length a.line.now ≡ a.n + 1 = omega arith in
-    record { answer = sym (low_refused a.n a.h a.line.now a.label a.room long c.if-room-h.false c.if-label-lt1.true); passes = λ e. absurd (no_fault _ e) }
+    let out : label_fits a.label ≡ false = search rules in
+    sym (label_refused a.held.n (length a.held.entries.now) a.line.now a.label a.room (omega arith) c.if-room-held.false out)
 
-pub returns-then-label-gt-LAST_LABEL : goal.returns-then-label-gt-LAST_LABEL
-returns-then-label-gt-LAST_LABEL c =
+pub returns-in-None-clause-answer : goal.returns-in-None-clause-answer
+returns-in-None-clause-answer c =
     let a = c.args in
-    let long : length a.line.now ≡ a.n + 1 = omega arith in
-    record { answer = sym (high_refused a.n a.h a.line.now a.label a.room long c.if-room-h.false c.if-label-lt1.false c.if-label-gt-LAST_LABEL.true); passes = λ e. absurd (no_fault _ e) }
+    let fits : label_fits a.label ≡ true = search rules in
+    sym (by_limits a.held.n (length a.held.entries.now) a.line.now a.label a.room (omega arith) c.if-room-held.false fits ∙ ap limited (sym c.in-None.ensures.answer))
 
-pub returns-in-None : goal.returns-in-None
-returns-in-None c =
+pub returns-in-Some-clause-answer : goal.returns-in-Some-clause-answer
+returns-in-Some-clause-answer c =
     let a = c.args in
-    let long : length a.line.now ≡ a.n + 1 = omega arith in
-    record {
-      answer = sym (by_limits a.n a.h a.line.now a.label a.room long c.if-room-h.false c.if-label-lt1.false c.if-label-gt-LAST_LABEL.false ∙ ap limited (sym c.in-None.ensures.answer));
-      passes = λ e. record { long = long; records = c.if-room-h.false; small = c.in-None.ensures.small refl };
-    }
-
-pub returns-in-Some : goal.returns-in-Some
-returns-in-Some c =
-    let a = c.args in
-    let long : length a.line.now ≡ a.n + 1 = omega arith in
-    record {
-      answer = sym (by_limits a.n a.h a.line.now a.label a.room long c.if-room-h.false c.if-label-lt1.false c.if-label-gt-LAST_LABEL.false ∙ ap limited (sym c.in-Some.ensures.answer));
-      passes = λ e. absurd (no_fault _ e);
-    }
+    let fits : label_fits a.label ≡ true = search rules in
+    sym (by_limits a.held.n (length a.held.entries.now) a.line.now a.label a.room (omega arith) c.if-room-held.false fits ∙ ap limited (sym c.in-Some.ensures.answer))

@@ -1,4 +1,4 @@
-use Rattle.std.proofs.Common.{◌≡◌, ℕ, ◌+◌, ◌<◌, ◌≤◌, min, Bool, true, false, cond, List, [], length, get_or, take, drop, sym, refl, ap, ◌∙◌, subst, ap₂, arith, length-take-le, take_all, get_or-take}
+use Rattle.std.proofs.Common.{◌≡◌, ℕ, ◌+◌, ◌<◌, ◌≤◌, if◌then◌else◌, min, Bool, cond, List, [], length, get_or, take, drop, sym, refl, ap, ◌∙◌, subst, ap₂, arith, length-take-le, take_all}
 use native.Mathlib.Decide.{dec_le}
 use Rattle.ledger.specs.declared.entry.Entry.{Entry}
 use Rattle.ledger.specs.declared.ledger.Ledger.{Ledger}
@@ -12,7 +12,7 @@ use Rattle.elimination.specs.Again.{restated}
 use Rattle.elimination.specs.Stating.{entered}
 use Rattle.elimination.proofs.Restated.{Gone, gone_start, gone_size, gone_more, gone_all, verdict, entered_taken, entered_none, size_same, shown_few, first_lines}
 use Rattle.elimination.proofs.restating.restate.Goals as goal
-use Rattle.elimination.proofs.restating.restate.Goals.{in-Some+else-not-hold, in_default}
+use Rattle.elimination.proofs.restating.restate.Goals.{in-Some, in_default}
 
 -- a ledger of as many set points
 same_size : (l l' : Ledger) (k : ℕ) → k ≡ (listed l).n → listed l' ≡ empty k → (listed l').n ≡ (listed l).n
@@ -26,14 +26,14 @@ take_min k a xs e = go (dec_le a (length xs))
     go (no h) = take_all k xs (omega arith) ∙ sym (take_all a xs (omega arith))
 
 pub loop-place-init : goal.loop-place-init
-loop-place-init g c = gone_start g.K.Number.kind (listed c.new.result) c.args.memory.now (take c.min-again.result c.fitting.result.1.now) (ap (λ t. t.entries) c.new.ensures)
+loop-place-init g c = gone_start g.K.Number.kind (listed c.new.result) c.args.memory.now (take c.min.result c.fitting.result.entries.now) (ap (λ t. t.entries) c.new.ensures)
 
 -- the place is that of a line, and of a set point
 module _ (l l' : Ledger) (es : List Entry) (k n have i again : ℕ) where
-  inside : listed l' ≡ empty k → k ≡ (listed l).n → n ≡ size_in (listed l) have → length es ≤ n → i < again → again ≤ length es → (i < length (take again es)) × (i < size_in (listed l') have)
+  inside : listed l' ≡ empty k → k ≡ (listed l).n → n ≡ size_in (listed l) have → length es ≤ n → i < length (take again es) → again ≤ length es → (i < length (take again es)) × (i < size_in (listed l') have)
   inside d e size few b c = (
-    let t = length-take-le again es c in omega (arith, t),
-    subst (λ x. i < x) (size ∙ sym (size_same (listed l') (listed l) have have (same_size l l' k e d) refl)) (omega arith),
+    b,
+    subst (λ x. i < x) (size ∙ sym (size_same (listed l') (listed l) have have (same_size l l' k e d) refl)) (let t = length-take-le again es c in omega (arith, t)),
   )
 
 pub restate_line-requires : goal.restate_line-requires
@@ -41,12 +41,12 @@ restate_line-requires g c =
     let K = g.K.Number.kind in
     let l₀ = listed c.new.result in
     let m₀ = c.args.memory.now in
-    let es = take c.min-again.result c.fitting.result.1.now in
+    let es = take c.min.result c.fitting.result.entries.now in
     let l = listed c.loop-place.ledger in
     let m = c.loop-place.memory in
     let i = c.loop-place.place in
-    let within : c.min-again.result ≤ length c.fitting.result.1.now = omega (arith, c.min-again.ensures) in
-    let at = inside c.args.ledger.now c.new.result c.fitting.result.1.now c.set_points.result c.fitting.result.0 (length m₀) i c.min-again.result c.new.ensures c.set_points.ensures c.fitting.ensures.size c.fitting.ensures.held c.loop-place-test.true within in
+    let within : c.min.result ≤ length c.fitting.result.entries.now = omega (arith, c.min.ensures) in
+    let at = inside c.args.ledger.now c.new.result c.fitting.result.entries.now c.set_points.result c.fitting.result.n (length m₀) i c.min.result c.new.ensures c.set_points.ensures c.fitting.ensures.size c.fitting.result.held c.loop-place-test.true within in
     record {
       held = shown_few l (length m) i c.loop-place.invariant.few;
       place = subst (λ x. i < x) (sym (gone_size K l₀ m₀ es i l m c.loop-place.invariant)) at.1;
@@ -57,31 +57,25 @@ loop-place-preserved g c =
     let K = g.K.Number.kind in
     let l₀ = listed c.new.result in
     let m₀ = c.args.memory.now in
-    let all = c.fitting.result.1.now in
-    let es = take c.min-again.result all in
+    let all = c.fitting.result.entries.now in
+    let es = take c.min.result all in
     let l = listed c.loop-place.ledger in
     let m = c.loop-place.memory in
     let m' = c.restate_line.new.memory in
     let i = c.loop-place.place in
     let s = c.loop-place.invariant in
     let x = c.restate_line.ensures in
-    let within : c.min-again.result ≤ length all = omega (arith, c.min-again.ensures) in
-    let at = inside c.args.ledger.now c.new.result all c.set_points.result c.fitting.result.0 (length m₀) i c.min-again.result c.new.ensures c.set_points.ensures c.fitting.ensures.size c.fitting.ensures.held c.loop-place-test.true within in
+    let within : c.min.result ≤ length all = omega (arith, c.min.ensures) in
+    let at = inside c.args.ledger.now c.new.result all c.set_points.result c.fitting.result.n (length m₀) i c.min.result c.new.ensures c.set_points.ensures c.fitting.ensures.size c.fitting.result.held c.loop-place-test.true within in
     let label = (get_or es i blank).label in
-    let same_label : (get_or all i blank).label ≡ label = ap (λ e. e.label) (sym (get_or-take c.min-again.result all i blank c.loop-place-test.true)) in
     let v = verdict K l₀ m₀ es i at.0 at.1 l m s in
     let l' = listed c.match-restate_line.ledger in
     let more : l' ≡ entered v label l → Gone K l₀ m₀ es (i + 1) l' m' = λ is. gone_more K l₀ m₀ es i at.0 at.1 l m s l' m' c.restate_line.auto.memory is (x.held label) x.later in
     elim c.match-restate_line.branch [
-      | in-Some+else-not-hold w ↦ more (ap listed w.ledger-is ∙ w.hold.ensures.after
-          ∙ ap₂ (λ (b : Bool) j. cond b (holding j w.in-Some.subject l) l) w.if-not-hold.false same_label ∙ entered_taken v label w.in-Some.subject l (sym w.in-Some.is ∙ x.answer label))
+      | in-Some w ↦ more (ap listed w.ledger-is ∙ w.hold.ensures.after
+          ∙ ap (λ (b : Bool). if b then holding label w.in-Some.subject l else l) (w.hold.ensures.asked ∙ w.in-Some.ensures.proper) ∙ entered_taken v label w.in-Some.subject l (sym w.in-Some.is ∙ x.answer label))
       | in_default w ↦ more (ap listed w.ledger-is ∙ entered_none v label l (sym w.in_default.is ∙ x.answer label))
     ]
-
-pub unreachable-requires : goal.unreachable-requires
-unreachable-requires g c =
-    let no : false ≡ true = c.if-not-hold.ensures.answer ∙ c.in-Some.ensures.proper in
-    let z : ◌≡◌ {A = ℕ} 0 1 = cc in omega arith
 
 pub returns : goal.returns
 returns g c =
@@ -89,20 +83,20 @@ returns g c =
     let old = listed c.args.ledger.now in
     let l₀ = listed c.new.result in
     let m₀ = c.args.memory.now in
-    let n = c.fitting.result.0 in
-    let all = c.fitting.result.1.now in
-    let k = c.min-again.result in
+    let n = c.fitting.result.n in
+    let all = c.fitting.result.entries.now in
+    let k = c.min.result in
     let l = listed c.loop-place.ledger in
     let m = c.loop-place.memory in
     let i = c.loop-place.place in
     let s = c.loop-place.invariant in
     let size = same_size c.args.ledger.now c.new.result c.set_points.result c.set_points.ensures c.new.ensures in
     let shown : size_in l₀ (length m₀) ≡ size_in old (length m₀) = size_same l₀ old (length m₀) (length m₀) size refl in
-    let t = length-take-le k all (omega (arith, c.min-again.ensures)) in
+    let t = length-take-le k all (omega (arith, c.min.ensures)) in
     let done = gone_all K l₀ m₀ (take k all) i l m (let b = c.loop-place-test.false in omega (arith, t)) s in
     let here : held_lines (size_in l₀ (length m₀)) m₀ 0 (take k all) ≡ take c.args.count (held_in old m₀) = ap (λ x. held_lines x m₀ 0 (take k all)) (shown ∙ sym c.fitting.ensures.size) ∙ first_lines n m₀ 0 k all
     ∙ ap (take k) (held_is old (length m₀) n all c.fitting.ensures.size c.fitting.ensures.entries m₀ refl)
-    ∙ take_min k c.args.count (held_in old m₀) (c.min-again.ensures ∙ ap (min c.args.count) (sym (held_count old m₀ ∙ ap length (sym c.fitting.ensures.entries)))) in
+    ∙ take_min k c.args.count (held_in old m₀) (c.min.ensures ∙ ap (min c.args.count) (sym (held_count old m₀ ∙ ap length (sym c.fitting.ensures.entries)))) in
     record {
       size = s.size ∙ size;
       held = done ∙ ap₂ (λ x hs. restated K x [] hs) shown here;

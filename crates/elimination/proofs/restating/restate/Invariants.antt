@@ -1,7 +1,6 @@
-use Rattle.std.proofs.Common.{take}
 use Rattle.ledger.specs.Listed.{listed}
 use Rattle.elimination.proofs.Restated.{Gone}
 use Rattle.elimination.proofs.restating.restate.Given as goal
 
 abbrev pub invariant-loop-place : goal.invariant-loop-place
-invariant-loop-place g l = Gone g.K.Number.kind (listed l.initial.ledger) l.initial.memory (take l.again l.entries) l.place (listed l.ledger) l.memory
+invariant-loop-place g l = Gone g.K.Number.kind (listed l.initial.ledger) l.initial.memory l.again l.place (listed l.ledger) l.memory

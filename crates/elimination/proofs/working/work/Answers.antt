@@ -4,10 +4,11 @@ use Rattle.ledger.specs.Listed.{listed}
 use Rattle.elimination.specs.declared.fault.StepFault.{StepFault}
 use Rattle.elimination.specs.Held.{lines_place, row_at, held_lines, held_in, row_in, size_in, entries_in}
 use Rattle.elimination.specs.Outcome.{spent, found, work}
-use Rattle.elimination.specs.Working.{working, Answers, Left, Remains}
+use Rattle.elimination.specs.Working.{working, Left, Remains}
+use Rattle.elimination.specs.Stating.{Answers}
 use Rattle.elimination.proofs.Always.{work_always}
-use Rattle.elimination.proofs.Remaining.{held_is, row_shown, left_shows, has_place}
-use Rattle.elimination.proofs.Verdicts.{used_all}
+use Rattle.elimination.proofs.Remaining.{held_is, row_shown, left_shows}
+use Rattle.elimination.proofs.Shown.{has_place}
 use Rattle.elimination.proofs.Outcomes.{nothing_left}
 use Rattle.elimination.proofs.working.work.Goals as goal
 
@@ -18,23 +19,18 @@ no_entries (e ∷ es) h = absurd (omega arith)
 no_fault : (o : Option ℕ) (f : StepFault) → ◌≡◌ {A = Result (Option ℕ) StepFault} (Ok o) (Err f) → ⊥
 no_fault o f e = let z : ◌≡◌ {A = ℕ} 0 1 = cc in omega arith
 
-pub returns-then-n-eq0 : goal.returns-then-n-eq0
-returns-then-n-eq0 g c =
+pub returns-then-held-eq0 : goal.returns-then-held-eq0
+returns-then-held-eq0 g c =
     let K = g.K.Number.kind in
     let l = listed c.args.ledger.now in
     let m = c.args.memory.now in
-    let n = c.fitting-n.result.0 in
-    let es = c.fitting-n.result.1.now in
-    let size = c.fitting-n.ensures.size in
-    let none : es ≡ [] = no_entries es (let h = c.fitting-n.ensures.held in let z = c.if-n-eq0.true in omega (arith, h, z)) in
-    let held : held_in l m ≡ [] = sym (held_is l (length m) n es size c.fitting-n.ensures.entries m refl) ∙ ap (held_lines n m 0) none in
-    let all : working K l m ≡ spent (row_in l m) = ap₂ (λ k hs. work K k hs (row_in l m)) (sym size ∙ c.if-n-eq0.true) held ∙ nothing_left K (row_in l m) in
+    let n = c.fitting-held.result.n in
+    let es = c.fitting-held.result.entries.now in
+    let size = c.fitting-held.ensures.size in
+    let none : es ≡ [] = no_entries es (let h = c.fitting-held.result.held in let z = c.if-held-eq0.true in omega (arith, h, z)) in
+    let held : held_in l m ≡ [] = sym (held_is l (length m) n es size c.fitting-held.ensures.entries m refl) ∙ ap (held_lines n m 0) none in
+    let all : working K l m ≡ spent (row_in l m) = ap₂ (λ k hs. work K k hs (row_in l m)) (sym size ∙ c.if-held-eq0.true) held ∙ nothing_left K (row_in l m) in
     record { answer = sym (ap found all); proper = tt; left = subst (λ o. Remains o l m m) (sym all) (refl, refl); lines = refl; always = λ _ f d. no_fault _ f d }
-
-pub solve-requires : goal.solve-requires
-solve-requires g c =
-    let room = used_all c.fitting-n.result.0 (let z = c.if-n-eq0.false in omega (arith, z)) in
-    record { few = c.fitting-n.ensures.few; held = c.fitting-n.ensures.held; room = subst (λ k. k ≤ length c.args.memory.now) room c.fitting-n.ensures.room }
 
 pub returns : goal.returns
 returns g c =
@@ -42,10 +38,10 @@ returns g c =
     let l = listed c.args.ledger.now in
     let m = c.args.memory.now in
     let m' = c.solve.new.memory in
-    let n = c.fitting-n.result.0 in
-    let es = c.fitting-n.result.1.now in
-    let size = c.fitting-n.ensures.size in
-    let entries = c.fitting-n.ensures.entries in
+    let n = c.fitting-held.result.n in
+    let es = c.fitting-held.result.entries.now in
+    let size = c.fitting-held.ensures.size in
+    let entries = c.fitting-held.ensures.entries in
     let x = c.solve.ensures in
     let is : work K n (held_lines n m 0 es) (row_at n m (length es)) ≡ working K l m = ap (λ k. work K k (held_lines n m 0 es) (row_at n m (length es))) size
     ∙ ap₂ (work K (size_in l (length m))) (held_is l (length m) n es size entries m refl) (row_shown l (length m) n es size entries m refl) in
@@ -54,7 +50,7 @@ returns g c =
     record {
       answer = says;
       proper = has_place l (length m) c.solve.result proper;
-      left = left_shows l (length m) n es size entries (working K l m) m m' refl c.solve.auto.memory (subst (λ o. Left o n es m m') is x.left);
+      left = left_shows l (length m) c.fitting-held.result size entries (working K l m) m m' refl c.solve.auto.memory (subst (λ o. Left o c.fitting-held.result m m') is x.left);
       lines = subst (λ k. drop (lines_place k) m' ≡ drop (lines_place k) m) size x.lines;
       always = λ all f d. work_always g.K.Number.laws all (size_in l (length m)) (held_in l m) (row_in l m) f (sym says ∙ d);
     }

@@ -1,19 +1,17 @@
--- Every kind holds 0: the call cannot answer a fault, and the value is `nil`.
-use Rattle.std.proofs.Common.{◌≡◌, ℕ, Ok, Err, Result, ap, ◌∙◌, arith}
+-- Every kind holds 0, so its answer is the value `nil`.
+use Rattle.std.proofs.Common.{◌≡◌, Ok, Result, sym, ap, ◌∙◌}
+use Rattle.std.specs.Result.{is_ok}
 use Rattle.exact.specs.declared.fault.NumberFault.{NumberFault}
 use Rattle.exact.specs.Answers.{held, whole_of}
 use Rattle.exact.proofs.value.zero.Goals as goal
 
-no_fault : {V : Type 0} (v : V) (f : NumberFault) → ◌≡◌ {A = Result V NumberFault} (Err f) (Ok v) → ⊥
-no_fault v f e = let z : ◌≡◌ {A = ℕ} 0 1 = cc in omega arith
-
 one_value : {V : Type 0} (v w : V) → ◌≡◌ {A = Result V NumberFault} (Ok v) (Ok w) → v ≡ w
 one_value v w e = cc
 
-pub unreachable-requires : goal.unreachable-requires
+pub unwrap-requires : goal.unwrap-requires
 unfolding whole_of
-unreachable-requires g c = no_fault g.K.Number.kind.nil _ (c.in-Err.ensures ∙ ap held g.K.Number.laws.nil_written)
+unwrap-requires g c = ap is_ok (c.whole.ensures ∙ ap held g.K.Number.laws.nil_written)
 
 pub returns : goal.returns
 unfolding whole_of
-returns g c = one_value c.in-Ok.v g.K.Number.kind.nil (c.in-Ok.ensures ∙ ap held g.K.Number.laws.nil_written)
+returns g c = one_value c.unwrap.result g.K.Number.kind.nil (sym c.unwrap.ensures ∙ c.whole.ensures ∙ ap held g.K.Number.laws.nil_written)

@@ -1,15 +1,25 @@
-use Rattle.std.proofs.Common.{◌≡◌, ◌+◌, sym, ◌∙◌, arith}
-use Rattle.placing.proofs.Digits.{digit, beyond}
+use Rattle.std.proofs.Common.{Some, None, refl, ap, ◌∙◌}
+use Rattle.placing.proofs.Digits.{from_one, apart, beyond, digit}
 use Rattle.placing.proofs.column.column_of.Goals as goal
-use Rattle.placing.proofs.column.column_of.Goals.{else-position-gt0-via-then-position-gt0+else-position-n, else-position-gt0-via-else-position-gt0}
+
+pub returns-in_err-first_of : goal.returns-in_err-first_of
+returns-in_err-first_of c =
+    let a = c.args in
+    let ne = apart _ a.position a.n c.checked_sub.ensures c.if-eq.ensures in
+    let e = c.in_err-first_of.ensures in
+    record {
+      is = c.from_residual.ensures ∙ beyond a.line.now a.n a.position c.terms.result.now None ne c.terms.ensures e;
+      counted = rw c.from_residual.ensures tt;
+      digit = λ h s. digit a.line.now a.n a.position c.terms.result.now None ne c.terms.ensures e tt h refl;
+    }
 
 pub returns : goal.returns
 returns c =
-    let line = c.args.line.now in
-    let ne : c.args.position ≡ c.args.n + 1 → ⊥ =
-    elim c.else-position-gt0.branch [
-      | else-position-gt0-via-then-position-gt0+else-position-n w ↦ λ e. w.if-position-n.false (omega arith)
-      | else-position-gt0-via-else-position-gt0 w ↦ λ e. omega (arith, w.if-position-gt0.false)
-    ] in
-    let is = beyond line c.args.n c.args.position c.start_of.result c.terms.result.now ne c.terms.ensures c.start_of.ensures in
-    record { is = is; digit = λ h e. digit line c.args.n c.args.position h (sym is ∙ e) }
+    let a = c.args in
+    let ne = apart _ a.position a.n c.checked_sub.ensures c.if-eq.ensures in
+    let e = ap Some c.branch.view_is ∙ c.in_ok-first_of.ensures in
+    record {
+      is = beyond a.line.now a.n a.position c.terms.result.now _ ne c.terms.ensures e;
+      counted = from_one _ _ c.branch.invariant.1;
+      digit = λ h s. digit a.line.now a.n a.position c.terms.result.now _ ne c.terms.ensures e c.branch.invariant h s;
+    }

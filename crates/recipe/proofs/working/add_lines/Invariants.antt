@@ -6,9 +6,9 @@ use Rattle.recipe.proofs.Lining.{Reached}
 use Rattle.recipe.proofs.working.add_lines.Given as goal
 
 abbrev pub invariant-loop-line : goal.invariant-loop-line
-invariant-loop-line g l =
-    Counted l.lines
-    × Reached g.K.Number.kind (length l.initial.records) (contents l.initial.sheet) (named l.initial.lines) (vec_items l.initial.out) (contents l.sheet) (named l.lines) (vec_items l.out)
-
-abbrev pub decreases-loop-line : goal.decreases-loop-line
-decreases-loop-line g l = length (named l.lines)
+invariant-loop-line g l = record {
+  callable : (goal.iterator-loop-line g).can_next l.line-iterator;
+  finite : (goal.iterator-loop-line g).is_finite l.line-iterator;
+  counted : Counted l.line-iterator;
+  reached : Reached g.K.Number.kind (length l.initial.records) (contents l.initial.sheet) (named l.fn.lines) (vec_items l.initial.out) (contents l.sheet) (named l.line-iterator) (vec_items l.out);
+}

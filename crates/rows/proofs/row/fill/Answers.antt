@@ -1,15 +1,15 @@
-use Rattle.std.proofs.Common.{◌≡◌, ℕ, zero, suc, [], ◌∷◌, ◌++◌, replicate, sym, refl, ap, ◌∙◌, add-one, arith, take_all}
-use Rattle.std.proofs.lemmas.List.{take_more_set}
+use Rattle.std.proofs.Common.{◌≡◌, List, [], ◌∷◌, length, replicate, refl, ap, ap₂, ◌∙◌, subst, rules}
+use Rattle.std.specs.List.{FoldsTo}
 use Rattle.rows.proofs.row.fill.Goals as goal
 
-one_more : {V : Type 0} (n : ℕ) (v : V) → replicate n v ++ v ∷ [] ≡ replicate (suc n) v
-one_more zero v = refl
-one_more (suc n) v = ap (λ l. v ∷ l) (one_more n v)
-
-pub loop-i-preserved : goal.loop-i-preserved
-loop-i-preserved g c =
-    take_more_set c.loop-i.w c.loop-i.i c.args.v (omega arith) ∙ ap (λ l. l ++ c.args.v ∷ []) c.loop-i.invariant
-    ∙ one_more c.loop-i.i c.args.v ∙ ap (λ n. replicate n c.args.v) (sym (add-one c.loop-i.i))
+-- what calls that all answer v, and leave the closure as it was, give
+all_same : {P X : Type 0} (R : P → X → P → Type 0) (p : P) (v : X) → ((x : X) (q : P) → R p x q → (q ≡ p) × (x ≡ v)) → (xs : List X) (last : P) → FoldsTo R p xs last → xs ≡ replicate (length xs) v
+all_same R p v k [] last h = refl
+all_same R p v k (x ∷ xs) last h =
+    let e = k x h.0 h.1 in
+    ap₂ (λ y ys. y ∷ ys) e.1 (all_same R p v k xs last (subst (λ q. FoldsTo R q xs last) e.0 h.2))
 
 pub returns : goal.returns
-returns g c = sym (take_all c.loop-i.i c.loop-i.w (omega arith)) ∙ c.loop-i.invariant ∙ ap (λ n. replicate n c.args.v) (omega arith)
+returns g c =
+    let ran = c.fill_with.ensures.ran in
+    all_same _ _ c.args.v (λ x q r. (search rules, search rules)) c.fill_with.new.self ran.0 ran.1 ∙ ap (λ n. replicate n c.args.v) c.fill_with.ensures.len

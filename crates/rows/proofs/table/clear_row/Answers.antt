@@ -2,8 +2,9 @@ use Rattle.std.proofs.Common.{◌≡◌, ◌+◌, ◌*◌, ◌<◌, length, get_
 use Rattle.exact.proofs.Held.{nil_zero}
 use Rattle.rows.specs.Row.{done}
 use Rattle.rows.specs.Table.{row_of, with_row}
-use Rattle.rows.proofs.Ops.{at_is, at_past, cleared_zero, cleared_less}
-use Rattle.rows.proofs.Tables.{row_long, same_row}
+use Rattle.std.proofs.lemmas.List.{get_or_past}
+use Rattle.rows.proofs.Ops.{at_is}
+use Rattle.rows.proofs.Tables.{cleared_zero, cleared_less, row_long, same_row}
 use Rattle.rows.proofs.table.clear_row.Goals as goal
 
 pub returns-then-s-width : goal.returns-then-s-width
@@ -13,7 +14,7 @@ returns-then-s-width g c =
     let m = a.table.now in
     let w = row_of a.width m a.w in
     let l = row_long a.width m a.w in
-    let is = cleared_zero K a.s w (row_of a.width m a.by) K.nil (at_past K w a.s (omega (arith, l, c.if-s-width.true))) (nil_zero g.K.Number.laws) in
+    let is = cleared_zero K a.s w (row_of a.width m a.by) K.nil (get_or_past w a.s K.nil (omega (arith, l, c.if-s-width.true))) (nil_zero g.K.Number.laws) in
     record { answer = sym (ap done is.0); after = sym (ap (with_row a.width m a.w) is.1 ∙ same_row a.width m a.w); always = λ _. refl }
 
 pub returns-then-column-table : goal.returns-then-column-table
@@ -23,7 +24,7 @@ returns-then-column-table g c =
     let m = a.table.now in
     let w = row_of a.width m a.w in
     let l = row_long a.width m a.w in
-    let is = cleared_zero K a.s w (row_of a.width m a.by) K.nil (at_past K w a.s (omega (arith, l))) (nil_zero g.K.Number.laws) in
+    let is = cleared_zero K a.s w (row_of a.width m a.by) K.nil (get_or_past w a.s K.nil (omega (arith, l))) (nil_zero g.K.Number.laws) in
     record { answer = sym (ap done is.0); after = sym (ap (with_row a.width m a.w) is.1 ∙ same_row a.width m a.w); always = λ _. refl }
 
 pub returns-then-is_zero : goal.returns-then-is_zero

@@ -1,56 +1,36 @@
-use Rattle.std.proofs.Common.{◌<◌, map, length, take, sym, refl, ap, ◌∙◌, arith, length-set}
-use Rattle.std.proofs.lemmas.List.{take_more_set, map_push}
+use Rattle.std.proofs.Common.{◌≡◌, ◌≢◌, ◌≤◌, ◌++◌, [], ◌∷◌, IsOk, sym, rules}
+use Rattle.std.proofs.lemmas.Bool.{true≢false}
+use Rattle.std.proofs.lemmas.List.Elements.{All-push}
+use Rattle.std.proofs.lemmas.List.Quantifiers.{all_pairs_push}
+use Rattle.bounded.specs.Items.{items}
 use Rattle.ledger.specs.declared.wait.Wait.{Wait}
 use Rattle.ledger.specs.Waiting.{waiting}
-use Rattle.ledger.proofs.Separate.{points_more, apart_more}
-use Rattle.ledger.proofs.Standing.{new_point, place_left, no_point, not_again, free_point}
+use Rattle.ledger.proofs.Standing.{none_stands}
+use Rattle.ledger.proofs.Room.{room}
 use Rattle.ledger.proofs.waits.Waits.place.Goals as goal
 
-pub returns-then-q-lt1 : goal.returns-then-q-lt1
-returns-then-q-lt1 c = record { answer = sym (no_point c.args.q (waiting c.args.self.now) c.then-q-lt1.either); after = refl }
-
-pub returns-then-stands : goal.returns-then-stands
-returns-then-stands c = record { answer = sym (not_again c.args.q (waiting c.args.self.now) (sym c.if-stands.ensures)); after = refl }
-
-pub bounds-self-self : goal.bounds-self-self
-bounds-self-self c =
-    let w = c.args.self.now in
-    let free : w.count < 48 = place_left w c.args.q c.if-q-lt1.false c.if-q-gt-MOST_SET_POINTS.false (sym c.if-stands.ensures) in
-    omega arith
-
 pub invariant_of-self : goal.invariant_of-self
+unfolding waiting
 invariant_of-self c =
     let w = c.args.self.now in
     let q = c.args.q in
-    let s = w.sound in
+    let ws = items w.waits in
     let x : Wait = record { set_point = q } in
-    let low = c.if-q-lt1.false in
-    let high = c.if-q-gt-MOST_SET_POINTS.false in
-    let none = sym c.if-stands.ensures in
-    let new = new_point w q none in
-    let free : w.count < 48 = place_left w q low high none in
-    let in_table : w.count < length w.table = omega arith in
+    let range : (1 ≤ q) × (q ≤ 48) = search rules in
+    let new = none_stands q ws (sym c.if-stands.ensures) in
+    let ok : IsOk c.push.result = c.push.ensures.room.1 (room ws q w.points w.apart range.0 range.1 new) in
+    let more : items c.push.new.self ≡ ws ++ x ∷ [] = search rules in
     record {
-      sound = (
-        omega arith,
-        length-set w.table w.count x ∙ s.1,
-        points_more w.count w.table q s.2 s.3 low high new x refl in_table,
-        apart_more w.count w.table q s.2 s.3 low high new x refl in_table,
-      );
+      points = rw more (All-push (λ y. (1 ≤ y.set_point) × (y.set_point ≤ 48)) ws x w.points range);
+      apart = rw more (all_pairs_push (λ v y. v.set_point ≢ y.set_point) ws x w.apart new);
     }
 
-pub returns : goal.returns
+pub returns-in_err-push : goal.returns-in_err-push
 unfolding waiting
-returns c =
+returns-in_err-push c =
     let w = c.args.self.now in
     let q = c.args.q in
-    let s = w.sound in
-    let x : Wait = record { set_point = q } in
-    let low = c.if-q-lt1.false in
-    let high = c.if-q-gt-MOST_SET_POINTS.false in
-    let none = sym c.if-stands.ensures in
-    let free : w.count < 48 = place_left w q low high none in
-    record {
-      answer = sym (free_point q (waiting w) low high none);
-      after = ap (map (λ y. y.set_point)) (take_more_set w.table w.count x (omega arith)) ∙ map_push (λ y. y.set_point) (take w.count w.table) x;
-    }
+    let ws = items w.waits in
+    let range : (1 ≤ q) × (q ≤ 48) = search rules in
+    let new = none_stands q ws (sym c.if-stands.ensures) in
+    absurd (true≢false (sym (c.in_err-push.ensures.room.1 (room ws q w.points w.apart range.0 range.1 new))))

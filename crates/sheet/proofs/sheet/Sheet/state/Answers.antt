@@ -1,13 +1,15 @@
-use Rattle.std.proofs.Common.{◌≡◌, ℕ, ◌+◌, Bool, cond, length, Ok, Err, Result, sym, refl, ap, ◌∙◌, arith}
+use Rattle.std.proofs.Common.{◌≡◌, ◌+◌, Bool, cond, length, is_ok, Ok, Err, Result, sym, refl, ap, ◌∙◌, subst}
 use Rattle.std.proofs.lemmas.Result.{err_from_is_err_and}
 use Rattle.ledger.specs.Listed.{listed, holding}
 use Rattle.elimination.specs.declared.fault.SheetFault.{SheetFault}
 use Rattle.elimination.specs.declared.fault.SheetFault.TheVariants.{Numbers}
 use Rattle.elimination.specs.Held.{held_in}
+use Rattle.elimination.specs.Stating.{HasPlace}
 use Rattle.sheet.specs.declared.answer.Stated.{Stated}
 use Rattle.sheet.specs.declared.answer.Stated.TheVariants.{Held}
 use Rattle.sheet.specs.Contents.{contents, verdict}
 use Rattle.sheet.specs.Stored.{stored}
+use Rattle.sheet.proofs.Cases.{ok_no_err}
 use Rattle.sheet.proofs.Stating.{refused_is, follows_is, taken_is, contents_after, held_count}
 use Rattle.sheet.proofs.sheet.Sheet.state.Goals as goal
 
@@ -38,19 +40,16 @@ returns-in_err-state_line g c =
       always = λ all f' d. x.always all f' (c.in_err-state_line.was ∙ ap Err (same f (Numbers f') (sym says ∙ d)));
     }
 
-no_fault : (o : Stated) (f : SheetFault) → ◌≡◌ {A = Result Stated SheetFault} (Ok o) (Err f) → ⊥
-no_fault o f e = let z : ◌≡◌ {A = ℕ} 0 1 = cc in omega arith
-
-pub returns-in-Follows : goal.returns-in-Follows
+pub returns-in-None : goal.returns-in-None
 unfolding contents stored
-returns-in-Follows g c =
+returns-in-None g c =
     let K = g.K.Number.kind in
     let a = c.args in
     let s = a.self.now in
     let l = listed s.ledger in
     let x = c.state_line.ensures in
     let v = verdict K (contents s) a.line.now a.label (length a.records.now) in
-    let is = follows_is (contents s) v a.label l (sym x.answer ∙ c.in_ok-state_line.was ∙ ap Ok c.in-Follows.is) in
+    let is = follows_is (contents s) v a.label l (sym x.answer ∙ c.in_ok-state_line.was ∙ ap Ok c.in-None.is) in
     record {
       answer = is.0;
       contents = contents_after v a.label s.number l l s.memory.now c.state_line.new.memory is.1 c.state_line.auto.memory x.held;
@@ -58,23 +57,26 @@ returns-in-Follows g c =
       rest = x.rest;
       lender = refl;
       apart = refl;
-      always = λ all f' d. no_fault _ _ d;
+      always = λ all f' d. ok_no_err d;
     }
 
-pub returns-else-not-hold : goal.returns-else-not-hold
+pub unwrap-requires : goal.unwrap-requires
+unwrap-requires g c = c.hold.ensures.asked ∙ subst (λ o. HasPlace {E = SheetFault} (listed c.args.self.now.ledger) (Ok o)) c.in-Some.is c.in_ok-state_line.ensures.proper
+
+pub returns-in-Some : goal.returns-in-Some
 unfolding contents stored
-returns-else-not-hold g c =
+returns-in-Some g c =
     let K = g.K.Number.kind in
     let a = c.args in
     let s = a.self.now in
     let l = listed s.ledger in
     let m = s.memory.now in
-    let q = c.in-Taken.subject in
+    let q = c.in-Some.subject in
     let x = c.state_line.ensures in
     let v = verdict K (contents s) a.line.now a.label (length a.records.now) in
-    let is = taken_is (contents s) v a.label l q (sym x.answer ∙ c.in_ok-state_line.was ∙ ap Ok c.in-Taken.is) in
-    let place : length c.fitting.result.1.now ≡ length (held_in l m) = ap length c.fitting.ensures.entries ∙ sym (held_count l m) in
-    let entered : listed c.hold.new.self ≡ holding a.label q l = c.hold.ensures.after ∙ ap (λ (b : Bool). cond b (holding a.label q l) l) c.if-not-hold.false in
+    let is = taken_is (contents s) v a.label l q (sym x.answer ∙ c.in_ok-state_line.was ∙ ap Ok c.in-Some.is) in
+    let place : length c.fitting.result.entries.now ≡ length (held_in l m) = ap length c.fitting.ensures.entries ∙ sym (held_count l m) in
+    let entered : listed c.hold.new.self ≡ holding a.label q l = c.hold.ensures.after ∙ ap (λ (b : Bool). cond b (holding a.label q l) l) (ap is_ok c.unwrap.ensures) in
     record {
       answer = ap (λ i. Ok (Held (i + 1))) place ∙ is.0;
       contents = contents_after v a.label s.number l (listed c.hold.new.self) m c.state_line.new.memory (entered ∙ is.1) c.state_line.auto.memory x.held;
@@ -82,5 +84,5 @@ returns-else-not-hold g c =
       rest = x.rest;
       lender = refl;
       apart = refl;
-      always = λ all f' d. no_fault _ _ d;
+      always = λ all f' d. ok_no_err d;
     }

@@ -10,4 +10,4 @@ wide z f = omega (arith, ints)
 
 pub returns : goal.returns
 unfolding whole_of
-returns c = c.new.ensures ∙ ap (λ a. held (value_of (whole a))) (wide c.args.a c.ranges.a)
+returns c = c.new.ensures ∙ ap (λ a. held (value_of (whole a))) (ap (λ a. to_z w64 (of_z w64 a)) c.from.ensures ∙ wide c.args.a c.ranges.a)

@@ -1,10 +1,11 @@
 use Rattle.std.proofs.Common.{ℕ, ◌%◌, ◌^◌, ◌<◌, ◌≤◌, cond, eqb, pos, Ok, Err, sym, ap, ◌∙◌, mod-lt, arith}
+use Rattle.std.proofs.lemmas.Bool.{ne_eqb}
 use Rattle.exact.specs.declared.fault.NumberFault.TheVariants.{ByZero}
 use Rattle.exact.specs.Answers.{held, over_of}
 use Rattle.exact.specs.Fraction.{ratio}
 use Rattle.residues.specs.IndexKind.{index, indices, index_kind}
 use Rattle.residues.specs.Rest.{reciprocal}
-use Rattle.residues.specs.ResidueLaws.{over_made, nonzero_test}
+use Rattle.residues.specs.ResidueLaws.{over_made}
 use Rattle.residues.proofs.Narrow.{product_is}
 use Rattle.residues.proofs.index.number.IndexNumber.quotient.Goals as goal
 
@@ -23,5 +24,5 @@ unfolding over_of
 returns c =
     let K = index_kind in
     let v = held (K.value_of (ratio (K.tells c.args.self) (K.tells c.args.b))) in
-    ap Ok (c.turned_to.ensures ∙ ap index (product_is c.from.ensures (c.from-2.ensures ∙ ap pos c.reciprocal_of.ensures) (omega (arith, c.args.self.below)) (reciprocal_small c.args.b.teeth))) ∙ sym (ap held (over_made indices c.args.self c.args.b c.if-b-eq0.false))
-    ∙ sym (ap (λ t. cond t (Err ByZero) v) (nonzero_test c.args.b.teeth c.if-b-eq0.false))
+    ap Ok (c.from-3.ensures ∙ ap index (product_is c.from.ensures (c.from-2.ensures ∙ ap pos c.reciprocal_of.ensures) (omega (arith, c.args.self.below)) (reciprocal_small c.args.b.teeth))) ∙ sym (ap held (over_made indices c.args.self c.args.b c.if-b-eq0.false))
+    ∙ sym (ap (λ t. cond t (Err ByZero) v) (ne_eqb c.args.b.teeth 0 c.if-b-eq0.false))

@@ -7,4 +7,4 @@ use Rattle.residues.proofs.index.number.IndexNumber.whole.Goals as goal
 
 pub returns : goal.returns
 unfolding whole_of
-returns c = ap Ok (c.turned_to.ensures ∙ ap index (to_z-of_z w32 c.args.a c.ranges.a)) ∙ sym (ap held (whole_made indices c.args.a))
+returns c = ap Ok (c.from.ensures ∙ ap index (to_z-of_z w32 c.args.a c.ranges.a)) ∙ sym (ap held (whole_made indices c.args.a))

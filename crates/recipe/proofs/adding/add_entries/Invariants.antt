@@ -1,0 +1,5 @@
+use Rattle.printing.specs.Rows.{clash_row}
+use Rattle.recipe.proofs.adding.add_entries.Given as goal
+
+abbrev pub ghost-add_row : goal.ghost-add_row
+ghost-add_row a = clash_row a.write.0.now a.write.1.now
