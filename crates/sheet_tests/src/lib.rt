@@ -1,4 +1,4 @@
-// Runs of a sheet at its limits.
+// Runs of a sheet at its limits, of lists, trials and waits.
 #![tactic(auto)]
 
 #[cfg(test)]
@@ -7,3 +7,7 @@ mod limits;
 mod lists;
 #[cfg(test)]
 mod sizes;
+#[cfg(test)]
+mod trials;
+#[cfg(test)]
+mod waits;

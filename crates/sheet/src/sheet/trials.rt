@@ -21,6 +21,7 @@ impl<'a, K: Number> Sheet<'a, K> {
         ensures lender { SameLender self.old self.new }
     {
         let held = fitting(&self.ledger, self.memory.len()).entries.len();
+        // No From: of the ledger's faults `push` has only this one.
         self.marks.push(held).map_err(|_| TrialFault::Depth)?;
         Ok(Trial {
             number: self.number,
