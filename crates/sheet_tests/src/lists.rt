@@ -113,6 +113,7 @@ fn no_set_point_whole_list(rt: HostRuntime) {
         sheet.check(&[0, 0], 1_000_000, &mut records),
         stopped(0, SheetFault::Label)
     );
+    assert_eq!(rt; sheet.check(&[0, 0], 999_999, &mut records), Ok(3));
 }
 
 #[test]
