@@ -1,11 +1,15 @@
 -- What a write to a part of the memory leaves of the held lines.
 use Rattle.std.proofs.Common.{◌≡◌, ℕ, suc, ◌+◌, ◌-◌, ◌<◌, ◌≤◌, List, [], ◌∷◌, ◌++◌, length, take, drop, sym, refl, ap, ◌∙◌, ap₂, arith, take-take}
+use Rattle.std.proofs.Common.{drop-drop}
 use borrow.Rule.Slice.PartMut.{put_mid}
 use Rattle.std.proofs.lemmas.List.{drop-take}
 use Rattle.std.proofs.lemmas.Slice.{take-put_mid_below, drop-put_mid, between-put_mid}
 use Rattle.ledger.specs.declared.entry.Entry.{Entry}
+use Rattle.rows.specs.Table as table
 use Rattle.elimination.specs.Held.{wide, lines_place, row_place, line_place, row_at, line_at, held_line, held_lines, OnlyRow}
+use Rattle.elimination.specs.Held.{needed}
 use Rattle.elimination.proofs.Places.{row_next, row_line, rest_past}
+use Rattle.elimination.proofs.Places.{row_fits}
 
 -- ---- a part of a memory after another was written
 module _ {V : Type 0} (a k : ℕ) (m v : List V) (fits : a + k ≤ length m) (long : length v ≡ k) where
@@ -53,7 +57,13 @@ module _ {V : Type 0} (m m' : List V) where
   part_over a b w h e = ap (take w) (rest_past a b h m' m e)
 
 -- ---- one row
+pub put_row : {V : Type 0} (n : ℕ) (m : List V) (j : ℕ) (v : List V) → table.with_row (wide n) m j v ≡ put_mid (row_place n j) (wide n) m v
+put_row n m j v = ap (λ l. take (row_place n j) m ++ (v ++ l)) (sym (drop-drop (wide n) (row_place n j) m))
+
 module _ {V : Type 0} (n j : ℕ) where
+  pub only_none : (m : List V) → OnlyRow n j m m
+  only_none m = record { before = refl; after = refl }
+
   pub only_then : (m m' m'' : List V) → OnlyRow n j m m' → OnlyRow n j m' m'' → OnlyRow n j m m''
   only_then m m' m'' a b = record { before = b.before ∙ a.before; after = b.after ∙ a.after }
 
@@ -73,6 +83,9 @@ module _ {V : Type 0} (n j : ℕ) where
 
     pub only_held : (es : List Entry) → length es ≤ j → held_lines n m' 0 es ≡ held_lines n m 0 es
     only_held es l = held_same n m m' 0 es (λ i _ c. only_same i (omega arith))
+
+    pub only_rest : drop (needed n) m' ≡ drop (needed n) m
+    only_rest = rest_past (row_place n j + wide n) (needed n) (row_fits n j b) m' m only.after
 
     pub only_lines : drop (lines_place n) m' ≡ drop (lines_place n) m
     only_lines = rest_past (row_place n j + wide n) (lines_place n) (let a = row_line n j 0 b in omega (arith, a)) m' m only.after

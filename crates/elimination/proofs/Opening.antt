@@ -5,6 +5,7 @@ use Rattle.rows.specs.Row.{at, highest}
 use Rattle.elimination.specs.Stating.{Found}
 use Rattle.elimination.specs.Steps.{subject}
 use Rattle.elimination.proofs.Tests.{less}
+use Rattle.elimination.proofs.Tests.{not_less}
 
 module _ {V : Type 0} (K : Kind V) where
   -- columns past the m that are looked at do not count
@@ -24,3 +25,6 @@ module _ {V : Type 0} (K : Kind V) where
 
   pub subject_is : (n h : ℕ) (w : List V) → h < n → (highest K n w ≡ subject K n h w) × Found n h (highest K n w)
   subject_is n h w b = (sym (ap (λ t. cond t (highest K n w) None) (less h n b)), highest_found n n h w (omega arith) b)
+
+  pub no_subject : (n h : ℕ) (w : List V) → n ≤ h → None ≡ subject K n h w
+  no_subject n h w b = sym (ap (λ t. cond t (highest K n w) None) (not_less h n b))

@@ -1,5 +1,6 @@
 -- Where rows and lines lie.
 use Rattle.std.proofs.Common.{◌≡◌, ℕ, ◌+◌, ◌-◌, ◌*◌, ◌<◌, ◌≤◌, List, length, drop, sym, ap, ◌∙◌, mul-le-mul_right, add-mul, one-mul, mul-add, arith, length-drop, length-take-le, drop-drop}
+use Rattle.std.proofs.Common.{mul-le-mul}
 use Rattle.elimination.specs.Held.{wide, needed, lines_place, row_place, line_place, row_at}
 
 next : (t u w : ℕ) → t < u → t * w + w ≤ u * w
@@ -34,6 +35,13 @@ line_fits n j h = let a = next j n (n + 1) h in let s = size n in omega (arith, 
 
 pub row_fits : (n h : ℕ) → h ≤ n → row_place n h + wide n ≤ needed n
 row_fits n h l = let a = next h (n + 1) (wide n) (omega arith) in let s = size n in omega (arith, a, s)
+
+-- the numbers of a sheet are few
+pub row_small : (n j : ℕ) → n ≤ 48 → j ≤ n → row_place n j ≤ 4656
+row_small n j a b = mul-le-mul {n₁ = j} {m₁ = wide n} {n₂ = 48} {m₂ = 97} (omega arith) (omega arith)
+
+pub needed_small : (n : ℕ) → n ≤ 48 → needed n ≤ 7105
+needed_small n a = mul-le-mul {n₁ = n + 1} {m₁ = 3 * n + 1} {n₂ = 49} {m₂ = 145} (omega arith) (omega arith)
 
 -- the numbers of a row
 pub row_length : {V : Type 0} (n j : ℕ) (m : List V) → row_place n j + wide n ≤ length m → length (row_at n m j) ≡ wide n

@@ -12,6 +12,7 @@ use Rattle.elimination.specs.Stating.{unless, stating, course, Answers, HasPlace
 use Rattle.elimination.specs.Steps.{Verdict, refused, follows, clash, taken, steps}
 use Rattle.elimination.proofs.Frames.{held_length}
 use Rattle.elimination.proofs.Tests.{at_most, less}
+use Rattle.elimination.proofs.Tests.{above}
 
 -- a ledger keeps to its size
 pub sound_size : (l : Ledger) → ((listed l).n ≤ 48) × (length (listed l).entries ≤ (listed l).n)
@@ -26,9 +27,12 @@ module _ (l : Listed) (have : ℕ) where
   pub shown : needed l.n ≤ have → (size_in l have ≡ l.n) × (entries_in l have ≡ l.entries) × (used l.n ≤ have)
   shown h = let t = at_most (needed l.n) have h in (ap (λ b. cond b l.n 0) t, ap (λ b. cond b l.entries []) t, used_fits l.n have h)
 
+  pub hidden : have < needed l.n → (size_in l have ≡ 0) × (entries_in l have ≡ [])
+  hidden h = let t = above (needed l.n) have h in (ap (λ b. cond b l.n 0) t, ap (λ b. cond b l.entries []) t)
+
 -- a line with a subject, over what a ledger shows, has its place in the ledger
 module _ (l : Listed) (have : ℕ) where
-  in_fit : (b : Bool) (q : ℕ) → q < cond b l.n 0 → length (cond b l.entries []) < cond b l.n 0 → may_hold q l ≡ true
+  pub in_fit : (b : Bool) (q : ℕ) → q < cond b l.n 0 → length (cond b l.entries []) < cond b l.n 0 → may_hold q l ≡ true
   in_fit true q s h = ap (λ t. cond t (ltb q l.n) false) (less (length l.entries) l.n h) ∙ less q l.n s
   in_fit false q s h = absurd (omega arith)
 

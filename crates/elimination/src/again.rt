@@ -7,7 +7,7 @@ ghost use Rattle.elimination.specs.Steps.{steps};
 
 use crate::held::Held;
 use crate::stating::fitting;
-use crate::working::solve;
+use crate::working::work;
 use crate::working_row::open_row_again;
 use exact::number::Number;
 use ledger::ledger::Ledger;
@@ -42,7 +42,7 @@ pub(crate) fn restate_line<K: Number>(
 {
     let held = fitting(ledger, memory.len());
     open_row_again(memory, held, place);
-    let subject = solve(memory, held).ok().flatten()?;
+    let subject = work(ledger, memory).ok().flatten()?;
     move_line(memory, held, place);
     Some(subject)
 }

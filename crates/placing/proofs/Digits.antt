@@ -1,5 +1,5 @@
 -- A number without a column is at most 1 either way.
-use Rattle.std.proofs.Common.{◌≡◌, ℕ, zero, suc, ◌+◌, ◌-◌, ◌<◌, ◌≤◌, Bool, true, false, cond, eqb, ltb, List, [], ◌∷◌, ◌++◌, length, get_or, ℤ, pos, nat_abs, Some, None, Option, MatchOption, sym, refl, ap, ◌∙◌, subst, add-zero, arith, length-append, ltb-false, ltb-true, ne_eqb, eq-eqb}
+use Rattle.std.proofs.Common.{◌≡◌, ℕ, zero, suc, ◌+◌, ◌-◌, ◌<◌, ◌≤◌, Bool, true, false, cond, eqb, ltb, List, [], ◌∷◌, ◌++◌, length, get_or, ℤ, pos, nat_abs, Some, None, Option, MatchOption, All, sym, refl, ap, ◌∙◌, subst, add-zero, arith, length-append, ltb-false, ltb-true, ne_eqb, eq-eqb}
 use Rattle.std.proofs.lemmas.List.{get_or_past}
 use Rattle.std.specs.Option.{option_eq, option_map_or, option_and_then, SomeIff, IfSome}
 use Rattle.bounded.specs.Items.{items}
@@ -10,7 +10,7 @@ use Rattle.reading.specs.Terms.{Fair}
 use Rattle.placing.specs.Columns.{start, column, number_at}
 use Rattle.placing.specs.Numbers.{with_sign, coefficient, coefficients}
 use Rattle.placing.proofs.Filling.{length_coefficients}
-use Rattle.placing.proofs.Firsts.{first, coefficient_first, start_first}
+use Rattle.placing.proofs.Firsts.{first, coefficient_first, start_first, first_fair}
 
 one_by : (s : Bool) → nat_abs (with_sign s 1) ≤ 1
 one_by true = omega arith
@@ -26,9 +26,13 @@ small None h e = omega arith
 small (Some t) h e = one t.negative t.coefficient t.start e h.1
 
 -- columns count from 1
-pub from_one : (c : ℕ) (o : Option ℕ) → MatchOption o (c ≡ 1) (λ k. 1 ≤ k) → IfSome o (λ k. 1 ≤ k)
-from_one c None h = tt
-from_one c (Some k) h = h
+one_on : (c : ℕ) (o : Option ℕ) → MatchOption o (c ≡ 1) (λ k. 1 ≤ k) → IfSome o (λ k. 1 ≤ k)
+one_on c None h = tt
+one_on c (Some k) h = h
+
+from_one : (o : Option Term) → IfSome o Fair → IfSome (option_and_then (λ t. t.start) o) (λ c. 1 ≤ c)
+from_one None h = tt
+from_one (Some t) h = one_on t.coefficient t.start h.1
 
 -- the coefficients one by one
 nth : (ts : List Term) (q n i : ℕ) (zs : List ℤ) → i < n → get_or (coefficients ts q n ++ zs) i (pos 0) ≡ coefficient ts (q + i)
@@ -64,8 +68,14 @@ module _ (l : Line) (n p : ℕ) (ts : List Term) (o : Option Term) (ne : p ≡ n
   pub beyond : option_and_then (λ t. t.start) o ≡ column (meaning_of l) n p
   beyond = ap (option_and_then (λ t. t.start)) f ∙ sym (start_first ts p) ∙ ap (λ us. start us p) e ∙ sym (ap (λ b. cond b (Some l.start) (start (items l.terms) p)) (ne_eqb p (n + 1) ne))
 
-  pub digit : IfSome o Fair → 1 ≤ p → option_and_then (λ t. t.start) o ≡ None → nat_abs (number_at (meaning_of l) n p) ≤ 1
-  digit fair h s =
+  found : IfSome o Fair
+  found = subst (λ v. IfSome v Fair) (sym f) (first_fair ts p (subst (All Fair) (sym e) l.fair))
+
+  pub counted : IfSome (option_and_then (λ t. t.start) o) (λ c. 1 ≤ c)
+  counted = from_one o found
+
+  pub digit : 1 ≤ p → option_and_then (λ t. t.start) o ≡ None → nat_abs (number_at (meaning_of l) n p) ≤ 1
+  digit h s =
       let c : option_map_or (λ t. with_sign t.negative t.coefficient) o (pos 0) ≡ coefficient (items l.terms) p =
       ap (λ v. option_map_or (λ t. with_sign t.negative t.coefficient) v (pos 0)) f ∙ sym (coefficient_first ts p) ∙ ap (λ us. coefficient us p) e in
-      beside (items l.terms) n p (with_sign l.negative l.constant) (subst (λ v. nat_abs v ≤ 1) c (small o fair s)) h ne (ltb n p) refl
+      beside (items l.terms) n p (with_sign l.negative l.constant) (subst (λ v. nat_abs v ≤ 1) c (small o found s)) h ne (ltb n p) refl

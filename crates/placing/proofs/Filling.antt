@@ -1,9 +1,11 @@
 -- The numbers of a line, written one after another.
-use Rattle.std.proofs.Common.{◌≡◌, ℕ, zero, suc, ◌+◌, ◌<◌, ◌≤◌, List, [], ◌∷◌, ◌++◌, length, get_or, take, drop, set, ℤ, pos, Some, None, Option, MatchOption, Bor, append-nil, sym, refl, ap, ◌∙◌, append_assoc, add-zero, add-one, arith}
+use Rattle.std.proofs.Common.{◌≡◌, ℕ, zero, suc, ◌+◌, ◌<◌, ◌≤◌, List, [], ◌∷◌, ◌++◌, length, get_or, take, drop, set, ℤ, pos, Some, None, Option, MatchOption, IfSome, All, Bor, append-nil, sym, refl, ap, ◌∙◌, subst, append_assoc, add-zero, add-one, arith}
 use Rattle.std.proofs.lemmas.List.{drop_more, drop_all, length-take-le, set_at}
 use Rattle.std.specs.Option.{option_map_or, option_copied}
 use Rattle.reading.specs.declared.term.Term.{Term}
+use Rattle.reading.specs.Terms.{Fair}
 use Rattle.placing.specs.Numbers.{with_sign, coefficient, coefficients}
+use Rattle.placing.proofs.Firsts.{first, first_fair}
 
 pub length_coefficients : (ts : List Term) (q n : ℕ) → length (coefficients ts q n) ≡ n
 length_coefficients ts q zero = refl
@@ -40,3 +42,7 @@ pub mapped : (o : Option (Bor Term)) (r : ℤ) (P : Bor Term → Type 0) → Mat
     r ≡ option_map_or (λ t. with_sign t.negative t.coefficient) (option_copied o) (pos 0)
 mapped None r P m f = m
 mapped (Some x) r P m f = f x m
+
+-- the first term is fair where all are
+pub fair_at : (ts : List Term) (q : ℕ) (o : Option (Bor Term)) (x : Bor Term) → All Fair ts → option_copied o ≡ first ts q → o ≡ Some x → Fair x.now
+fair_at ts q o x h e f = subst (λ v. IfSome v Fair) (sym e ∙ ap option_copied f) (first_fair ts q h)

@@ -1,4 +1,5 @@
-ghost use Rattle.std.specs.Prelude.{◌≡◌, ◌+◌, ◌<◌, Bool, ◌∷◌, ◌++◌, length, drop};
+ghost use Rattle.std.specs.Prelude.{◌≡◌, ◌+◌, ◌<◌, Bool, ◌∷◌, ◌++◌, length, drop, All};
+ghost use Rattle.reading.specs.Terms.{Fair};
 ghost use Rattle.placing.specs.Numbers.{with_sign, coefficient, coefficients};
 
 use crate::first::first_of;
@@ -15,6 +16,7 @@ pub(crate) fn signed(negative: bool, size: u32) -> i32
 
 // The coefficient of a set point: that of its first term, 0 where it has none.
 fn coefficient_of(terms: &[Term], set_point: usize) -> i32
+    requires { All Fair terms.now }
     ensures { result ≡ coefficient terms.now set_point }
 {
     first_of(terms, set_point).map_or(0, |term| signed(term.negative, term.coefficient))
@@ -22,7 +24,8 @@ fn coefficient_of(terms: &[Term], set_point: usize) -> i32
 
 // Writes the n coefficients and the constant.
 pub(crate) fn fill(terms: &[Term], n: usize, constant: i32, out: &mut [i32])
-    requires { n < length out.old }
+    requires fair { All Fair terms.now }
+    requires room { n < length out.old }
     ensures { out.new ≡ coefficients terms.now 1 n ++ (constant ∷ drop (n + 1) out.old) }
 {
     for (i, x) in out[..n].iter_mut().enumerate() {

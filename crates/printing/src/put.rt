@@ -9,15 +9,15 @@ use arrayvec::ArrayString;
 use exact::shown::Parts;
 use itoa::{Buffer, Integer};
 
-// A row that is put together part by part.
+// A row of at most N bytes that is put together part by part. A text pays for all its room when it begins, so N is no larger than the row needs.
 #[derive(Drop)]
-pub(crate) struct Row {
-    text: ArrayString<ROW_BYTES>,
+pub(crate) struct Row<const N: usize> {
+    text: ArrayString<N>,
 }
 
 // A part's clauses say the most that it takes, each its own number: one word for them would say no less.
-impl Row {
-    pub(crate) fn new() -> Row
+impl<const N: usize> Row<N> {
+    pub(crate) fn new() -> Self
         ensures { result.text.bytes ≡ [] }
     {
         Row {
@@ -26,7 +26,7 @@ impl Row {
     }
 
     pub(crate) fn put(&mut self, part: &str)
-        requires { length self.old.text.bytes + length part.now ≤ 2048 }
+        requires { length self.old.text.bytes + length part.now ≤ N }
         ensures { self.new.text.bytes ≡ self.old.text.bytes ++ part.now }
     {
         self.text.push_str(part);
@@ -34,7 +34,7 @@ impl Row {
 
     // Not by `write!` and Display: no clause says when they succeed, and a row that has room is never refused.
     pub(crate) fn put_number<I: Integer>(&mut self, n: I)
-        requires { length self.old.text.bytes + I.MAX_STR_LEN ≤ 2048 }
+        requires { length self.old.text.bytes + I.MAX_STR_LEN ≤ N }
         ensures after { self.new.text.bytes ≡ self.old.text.bytes ++ I.text n }
         ensures short { length self.new.text.bytes ≤ length self.old.text.bytes + I.MAX_STR_LEN }
     {
@@ -44,7 +44,7 @@ impl Row {
 
     // A value takes at most 22 bytes.
     pub(crate) fn put_value(&mut self, value: Parts)
-        requires { length self.old.text.bytes + 22 ≤ 2048 }
+        requires { length self.old.text.bytes + 22 ≤ N }
         ensures after { self.new.text.bytes ≡ self.old.text.bytes ++ value_text value }
         ensures short { length self.new.text.bytes ≤ length self.old.text.bytes + 22 }
     {
@@ -58,7 +58,7 @@ impl Row {
 
     // An entry takes at most 34 bytes.
     fn put_entry(&mut self, entry: Entry)
-        requires { length self.old.text.bytes + 34 ≤ 2048 }
+        requires { length self.old.text.bytes + 34 ≤ N }
         ensures after { self.new.text.bytes ≡ self.old.text.bytes ++ entry_text entry }
         ensures short { length self.new.text.bytes ≤ length self.old.text.bytes + 34 }
     {
@@ -69,7 +69,7 @@ impl Row {
     }
 
     pub(crate) fn put_entries(&mut self, entries: &[Entry])
-        requires { length self.old.text.bytes + 34 * length entries.now ≤ 2048 }
+        requires { length self.old.text.bytes + 34 * length entries.now ≤ N }
         ensures after { self.new.text.bytes ≡ self.old.text.bytes ++ flat_map entry_text entries.now }
         ensures short { length self.new.text.bytes ≤ length self.old.text.bytes + 34 * length entries.now }
     {
@@ -80,6 +80,7 @@ impl Row {
 
     // Writes the row at the start of the slice, and answers its length.
     pub(crate) fn write(&self, out: &mut [u8]) -> Result<usize, PrintFault>
+        requires { N ≤ 2048 }
         ensures { Rowed (roomy out.old) self.now.text.bytes out.old out.new result }
     {
         if out.len() < ROW_BYTES {

@@ -13,9 +13,12 @@ pub const ROW_BYTES: usize = 2048;
 // The held lines of the largest sheet, and the line that clashes with them: by number, since printing does not know the sheet.
 pub const MOST_ENTRIES: usize = 49;
 
+// The bytes that suffice for a row of fixed parts: a word, and two numbers or a value.
+const PLAIN_BYTES: usize = 64;
+
 // Begins a row with a label and a word.
-fn begun(label: u32, word: &str) -> Row
-    requires { length word.now ≤ 20 }
+fn begun<const N: usize>(label: u32, word: &str) -> Row<N>
+    requires { 10 + length word.now ≤ N }
     ensures after { result.text.bytes ≡ decimal label ++ word.now }
     ensures short { length result.text.bytes ≤ 10 + length word.now }
 {
@@ -29,7 +32,7 @@ fn begun(label: u32, word: &str) -> Row
 pub fn held_row(out: &mut [u8], label: u32, place: usize) -> Result<usize, PrintFault>
     ensures { Rowed (roomy out.old) (held_row label place) out.old out.new result }
 {
-    let mut row = begun(label, " held ");
+    let mut row = begun::<PLAIN_BYTES>(label, " held ");
     row.put_number(place);
     row.put("\n");
     row.write(out)
@@ -39,7 +42,7 @@ pub fn held_row(out: &mut [u8], label: u32, place: usize) -> Result<usize, Print
 pub fn follows_row(out: &mut [u8], label: u32) -> Result<usize, PrintFault>
     ensures { Rowed (roomy out.old) (follows_row label) out.old out.new result }
 {
-    begun(label, " follows\n").write(out)
+    begun::<PLAIN_BYTES>(label, " follows\n").write(out)
 }
 
 // `LABEL clash LABEL:MULTIPLIER ..`.
@@ -49,7 +52,7 @@ pub fn clash_row(out: &mut [u8], label: u32, entries: &[Entry]) -> Result<usize,
     if entries.len() > MOST_ENTRIES {
         return Err(PrintFault::Room);
     }
-    let mut row = begun(label, " clash");
+    let mut row = begun::<ROW_BYTES>(label, " clash");
     row.put_entries(entries);
     row.put("\n");
     row.write(out)
@@ -59,7 +62,7 @@ pub fn clash_row(out: &mut [u8], label: u32, entries: &[Entry]) -> Result<usize,
 pub fn refused_row(out: &mut [u8], label: u32, report: Report) -> Result<usize, PrintFault>
     ensures { Rowed (roomy out.old) (refused_row label report) out.old out.new result }
 {
-    let mut row = begun(label, " refused ");
+    let mut row = begun::<PLAIN_BYTES>(label, " refused ");
     row.put_number(report.number);
     row.put(" ");
     row.put_number(report.place);
@@ -71,7 +74,7 @@ pub fn refused_row(out: &mut [u8], label: u32, report: Report) -> Result<usize, 
 pub fn settled_row(out: &mut [u8], set_point: usize, value: Parts) -> Result<usize, PrintFault>
     ensures { Rowed (roomy out.old) (settled_row set_point value) out.old out.new result }
 {
-    let mut row = Row::new();
+    let mut row = Row::<PLAIN_BYTES>::new();
     row.put("q");
     row.put_number(set_point);
     row.put(" = ");

@@ -1,5 +1,7 @@
-ghost use Rattle.std.specs.Prelude.{◌≡◌, ◌<◌, ◌≤◌};
+ghost use Rattle.std.specs.Prelude.{◌≡◌, ◌<◌, ◌≤◌, All};
+ghost use Rattle.std.proofs.Props.{props};
 ghost use Rattle.bounded.specs.Items.{items};
+ghost use Rattle.reading.specs.Terms.{Fair};
 
 use crate::term::Term;
 use bounded::bounded::Bounded;
@@ -13,7 +15,8 @@ pub struct Line {
     pub constant: u32,
     // The column of the constant's first digit.
     pub start: usize,
-    // No number has more than seven digits.
+    // No number has more than seven digits, and a coefficient without a digit is 1.
+    ghost fair: { All Fair (items terms) } by { Prim.hlevel props },
     ghost small: { constant < 10000000 },
     ghost begins: { 1 ≤ start },
 }

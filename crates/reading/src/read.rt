@@ -11,7 +11,7 @@ use std::num::NonZeroUsize;
 // Stands where no term does.
 const NO_TERM: Term = Term {
     negative: false,
-    coefficient: 1,
+    coefficient: 0,
     start: None,
     place: 0,
     number: 0,
@@ -25,20 +25,23 @@ pub fn read_line(text: &[u8]) -> Result<Line, FormFault>
         return Err(FormFault { column: 201 });
     }
     let mut stage = Stage::Opening;
-    let mut terms = Bounded::new(NO_TERM);
+    // The places and their count stand apart here, since a `Bounded` that is filled in place is moved twice more.
+    let mut places = [NO_TERM; 200];
+    let mut count = 0;
     for (i, byte) in text.iter().enumerate() {
         let column = NonZeroUsize::MIN.saturating_add(i);
         let step = stage.moved(column, Mark::from(*byte)).ok_or(FormFault {
             column: column.get(),
         })?;
         if let Some(term) = step.ended {
-            terms.push(term).unwrap();
+            places[count] = term;
+            count += 1;
         }
         stage = step.next;
     }
     match stage {
         Stage::Constant(negative, figure) => Ok(Line {
-            terms,
+            terms: Bounded::of(places, count),
             negative,
             constant: figure.value,
             start: figure.start,

@@ -1,15 +1,25 @@
-ghost use Rattle.std.specs.Prelude.{◌≡◌, ◌≤◌, ℕ, List, length, IfOk};
+ghost use Rattle.std.specs.Prelude.{◌≡◌, ◌≤◌, ℕ, List, length};
+ghost use Rattle.bounded.specs.Items.{items};
 ghost use Rattle.std.specs.Fn.{FnOnceReturnsAtMut};
 ghost use Rattle.printing.specs.Rows.{held_row, follows_row, clash_row, refused_row, settled_row};
 ghost use Rattle.recipe.specs.Added.{Added, Writes, parts_told, entry_of, entries_of};
 
+use bounded::bounded::Bounded;
 use elimination::record::Record;
 use exact::report::Report;
 use exact::shown::{Parts, Shown};
 use printing::entry::Entry;
 use printing::fault::PrintFault;
-use printing::row::{ROW_BYTES, clash_row, follows_row, held_row, refused_row, settled_row};
-use std::alloc::{AllocError, Global};
+use printing::row::{
+    MOST_ENTRIES, ROW_BYTES, clash_row, follows_row, held_row, refused_row, settled_row,
+};
+use std::alloc::AllocError;
+
+// Stands where no line of a clash does.
+const NO_ENTRY: Entry = Entry {
+    label: 0,
+    multiplier: Parts { top: 0, bottom: 1 },
+};
 
 // Adds the row that a call writes to the output. A row is written over a lent slice; this one suffices for any, so none is refused.
 fn add_row<F: FnOnce(&mut [u8]) -> Result<usize, PrintFault>>(
@@ -62,8 +72,8 @@ pub(crate) fn add_clash<K: Shown>(
     requires { length evidence.now ≤ 49 }
     ensures { Added (clash_row label (entries_of K.Number.kind evidence.now)) out.old.items out.new.items result }
 {
-    let entries = entries_of(*out.allocator(), evidence)?;
-    add_entries(out, label, &entries)
+    let entries = entries_of(evidence);
+    add_entries(out, label, entries.as_slice())
 }
 
 fn add_entries(out: &mut Vec<u8>, label: u32, entries: &[Entry]) -> Result<(), AllocError>
@@ -73,10 +83,16 @@ fn add_entries(out: &mut Vec<u8>, label: u32, entries: &[Entry]) -> Result<(), A
     add_row(out, |row| clash_row(row, label, entries))
 }
 
-fn entries_of<K: Shown>(heap: Global, evidence: &[Record<K>]) -> Result<Vec<Entry>, AllocError>
-    ensures { IfOk result (λ v. v.items ≡ entries_of K.Number.kind evidence.now) }
+// On no heap, so that a clash that is told needs no memory but that of its row.
+fn entries_of<K: Shown>(evidence: &[Record<K>]) -> Bounded<Entry, MOST_ENTRIES>
+    requires { length evidence.now ≤ 49 }
+    ensures { items result ≡ entries_of K.Number.kind evidence.now }
 {
-    evidence.iter().map(|told| entry_of(*told)).collect(heap)
+    let mut entries = Bounded::new(NO_ENTRY);
+    for told in evidence {
+        entries.push(entry_of(*told)).unwrap();
+    }
+    entries
 }
 
 // A record as it is printed. (Neither type is of this crate, so no From can stand here.)

@@ -10,12 +10,18 @@ use Rattle.exact.specs.Kind.{Kind, Lawful}
 use Rattle.exact.specs.Answers.{whole_of, less_of}
 use Rattle.exact.proofs.Held.{whole_always, less_held, over_held}
 use Rattle.rows.specs.Row.{at, done, less_swept, whole_op, whole_row, less_op, over_op, less_row, over_row, cleared, clear_swept, highest}
+use Rattle.rows.specs.Row.{Leaves}
 use Rattle.rows.proofs.Sweeps.{always}
+use Rattle.rows.proofs.Sweeps.{leaves_swept, swept_length}
 
 module _ {V : Type 0} (K : Kind V) where
   pub whole_inside : (numbers : List ℤ) (u : ℕ) (x : V) → u < length numbers → whole_op K numbers u x ≡ whole_of K (get_or numbers u (pos 0))
   unfolding whole_op
   whole_inside numbers u x h = ap (λ b. cond b (whole_of K (get_or numbers u (pos 0))) (Ok x)) (lt-ltb u (length numbers) h)
+
+  pub whole_past : (numbers : List ℤ) (u : ℕ) (x : V) → length numbers ≤ u → whole_op K numbers u x ≡ Ok x
+  unfolding whole_op
+  whole_past numbers u x h = ap (λ b. cond b (whole_of K (get_or numbers u (pos 0))) (Ok x)) (le-ltb u (length numbers) h)
 
   pub less_inside : (f : V) (r : List V) (u : ℕ) (x y : V) → u < length r → y ≡ get_or r u K.nil → less_op K f r u x ≡ less_of K x f y
   unfolding less_op
@@ -73,6 +79,23 @@ module _ {V : Type 0} (K : Kind V) where
       → r ≡ highest K (length w) w
   highest_is w None none some = sym (highest_past w (length w) (none refl))
   highest_is w (Some i) none some = let s = some i refl in sym (highest_here w (length w) i s.0 s.1 s.2)
+
+  -- what clearing a column leaves
+  pub clear_length : (s : ℕ) (w r : List V) → length (clear_swept K s w r) ≡ length w
+  unfolding clear_swept less_swept
+  clear_length s w r = go (K.is_zero (at K w s))
+    where
+      go : (b : Bool) → length (cond b w (less_swept K (at K w s) w r)) ≡ length w
+      go true = refl
+      go false = swept_length (less_op K (at K w s) r) 0 w
+
+  pub clear_leaves : (s : ℕ) (w r : List V) → Leaves (cleared K s w r) (clear_swept K s w r)
+  unfolding clear_swept less_swept cleared less_row
+  clear_leaves s w r = go (K.is_zero (at K w s))
+    where
+      go : (b : Bool) → Leaves (cond b (Ok w) (less_row K (at K w s) w r)) (cond b w (less_swept K (at K w s) w r))
+      go true = refl
+      go false = leaves_swept (less_op K (at K w s) r) 0 w
 
 module _ {V : Type 0} {K : Kind V} {admits : Fraction → Type 0} {alike : Fraction → Fraction → Type 0} {complete : Bool} (laws : Lawful K admits alike complete) (all : complete ≡ true) where
   pub whole_row_always : (numbers : List ℤ) (w : List V) → done (whole_row K numbers w) ≡ Ok tt

@@ -1,10 +1,11 @@
 -- The turns of a loop that works through a row, column by column.
-use Rattle.std.proofs.Common.{◌≡◌, ℕ, ◌+◌, ◌<◌, ◌≤◌, List, [], ◌∷◌, ◌++◌, length, get_or, take, drop, Ok, Err, Result, sym, refl, ap, ◌∙◌, subst, arith, take-append-drop, length-drop}
+use Rattle.std.proofs.Common.{◌≡◌, ℕ, zero, suc, ◌+◌, ◌<◌, ◌≤◌, min, List, [], ◌∷◌, ◌++◌, length, get_or, take, drop, Ok, Err, Result, sym, refl, ap, ◌∙◌, subst, arith, take-append-drop, length-drop}
 use Rattle.std.specs.Result.{MatchResult, IsErrAnd}
-use Rattle.std.proofs.lemmas.List.{drop_more, drop_all}
+use Rattle.std.proofs.lemmas.List.{drop_more, drop_all, take_all, append-nil}
+use native.Mathlib.Decide.{dec_le}
 use Rattle.exact.specs.declared.fault.NumberFault.{NumberFault}
 use Rattle.rows.specs.declared.fault.RowFault.{RowFault}
-use Rattle.rows.specs.Row.{placed, ahead, onto, by_column, instead, swept, done, Leaves, Does}
+use Rattle.rows.specs.Row.{placed, ahead, onto, by_column, instead, swept, done, Leaves, Keeps, Does}
 
 -- the answer of a number, once its fault has its column
 pub placed_is : {X : Type 0} (i : ℕ) (o : Result X NumberFault) (r : Result X RowFault) {P : NumberFault → RowFault → Type 0} → MatchResult o (λ x. r ≡ Ok x) (λ e. IsErrAnd r (P e))
@@ -66,8 +67,41 @@ module _ {V : Type 0} (op : ℕ → V → Result V NumberFault) where
       let none = drop_all i w h in
       does w₀ w (Ok tt) (a.answer ∙ ap (λ l. done (by_column op i l)) none) (a.row ∙ ap (λ l. take i w ++ l) (ap (swept op i) none ∙ sym none) ∙ take-append-drop i w)
 
+  -- work on the first k columns, where the others stay as they are
+  first_is : (i k : ℕ) (w : List V) → ((u : ℕ) (x : V) → i + k ≤ u → op u x ≡ Ok x) → (done (by_column op i w) ≡ done (by_column op i (take k w))) × (swept op i w ≡ swept op i (take k w) ++ drop k w)
+  first_is i zero w keeps =
+      let rest : by_column op i w ≡ Ok w = rest_row i w (λ u x l. keeps u x (omega arith)) in
+      (ap done rest, subst (λ m. Leaves m (swept op i w)) rest (leaves_swept i w))
+  first_is i (suc k) [] keeps = (refl, refl)
+  first_is i (suc k) (x ∷ xs) keeps = go (op i x) (first_is (i + 1) k xs (λ u y l. keeps u y (omega arith)))
+    where
+      go : (o : Result V NumberFault) → (done (by_column op (i + 1) xs) ≡ done (by_column op (i + 1) (take k xs))) × (swept op (i + 1) xs ≡ swept op (i + 1) (take k xs) ++ drop k xs)
+          → (done (onto (placed i o) (by_column op (i + 1) xs)) ≡ done (onto (placed i o) (by_column op (i + 1) (take k xs))))
+          × (instead o x xs (swept op (i + 1) xs) ≡ instead o x (take k xs) (swept op (i + 1) (take k xs)) ++ drop k xs)
+      go (Ok v) e = (done_ahead v (by_column op (i + 1) xs) ∙ e.0 ∙ sym (done_ahead v (by_column op (i + 1) (take k xs))), ap (λ l. v ∷ l) e.1)
+      go (Err f) e = (refl, ap (λ l. x ∷ l) (sym (take-append-drop k xs)))
+
+  pub does_first : (w₀ w : List V) (m k : ℕ) (r : Result Unit RowFault) → k ≡ min m (length w₀) → Keeps m op → Does op (take k w₀) r w → Does op w₀ r (w ++ drop k w₀)
+  does_first w₀ w m k r e keeps d = go (dec_le m (length w₀))
+    where
+      go : Dec (m ≤ length w₀) → Does op w₀ r (w ++ drop k w₀)
+      go (yes l) =
+          let f = first_is 0 k w₀ (λ u x b. keeps u x (omega (arith, e, l, b))) in
+          does w₀ (w ++ drop k w₀) r (f.0 ∙ sym d.answer) (f.1 ∙ ap (λ l. l ++ drop k w₀) (sym d.left))
+      go (no b) =
+          let h : length w₀ ≤ k = omega (arith, e, b) in
+          subst (Does op w₀ r) (sym (ap (λ l. w ++ l) (drop_all k w₀ h) ∙ append-nil w)) (subst (λ l. Does op l r w) (take_all k w₀ h) d)
+
   -- an operation that always goes through
   pub always : ((u : ℕ) (x : V) → (v : V) × (op u x ≡ Ok v)) → (i : ℕ) (w : List V) → done (by_column op i w) ≡ Ok tt
   always k i [] = refl
   always k i (x ∷ xs) =
       ap (λ o. done (onto (placed i o) (by_column op (i + 1) xs))) (k i x).1 ∙ done_ahead (k i x).0 (by_column op (i + 1) xs) ∙ always k (i + 1) xs
+
+  instead_length : (o : Result V NumberFault) (x : V) (xs rest : List V) → length rest ≡ length xs → length (instead o x xs rest) ≡ suc (length xs)
+  instead_length (Ok v) x xs rest e = ap suc e
+  instead_length (Err f) x xs rest e = refl
+
+  pub swept_length : (i : ℕ) (xs : List V) → length (swept op i xs) ≡ length xs
+  swept_length i [] = refl
+  swept_length i (x ∷ xs) = instead_length (op i x) x xs (swept op (i + 1) xs) (swept_length (i + 1) xs)

@@ -1,5 +1,5 @@
 -- Rows of numbers, and what the operations on them make. Columns count from 0 here, and from 1 in a fault.
-use Rattle.std.specs.Prelude.{◌≡◌, ℕ, zero, suc, ◌+◌, ◌^◌, ◌<◌, cond, List, [], ◌∷◌, length, ℤ, pos, Some, None, Ok, Err, Option, Result, nat_lt, slice_index_or}
+use Rattle.std.specs.Prelude.{◌≡◌, ℕ, zero, suc, ◌+◌, ◌^◌, ◌<◌, ◌≤◌, cond, List, [], ◌∷◌, length, ℤ, pos, Some, None, Ok, Err, Option, Result, nat_lt, slice_index_or}
 use Rattle.exact.specs.declared.fault.NumberFault.{NumberFault}
 use Rattle.exact.specs.Kind.{Kind}
 use Rattle.exact.specs.Answers.{whole_of, less_of, over_of}
@@ -45,6 +45,10 @@ Leaves (Err f) y = Unit {0}
 -- a closure whose possible results are `gives` answers what `op` says
 abbrev pub Gives : {V : Type 0} → (ℕ → V → Result V NumberFault → Type 0) → (ℕ → V → Result V NumberFault) → Type 0
 Gives {V} gives op = (i : ℕ) (x : V) (r : Result V NumberFault) → i < 2 ^ 64 → gives i x r → r ≡ op i x
+
+-- an operation that leaves each column from m on as it is
+abbrev pub Keeps : {V : Type 0} → ℕ → (ℕ → V → Result V NumberFault) → Type 0
+Keeps {V} m op = (u : ℕ) (x : V) → m ≤ u → op u x ≡ Ok x
 
 -- what the work on the row w₀ answers, and the row that it leaves
 pub record Does {V : Type 0} (op : ℕ → V → Result V NumberFault) (w₀ : List V) (r : Result Unit RowFault) (w : List V) : Type 0 where

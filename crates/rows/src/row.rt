@@ -1,6 +1,6 @@
 ghost use Rattle.std.specs.Prelude.{◌≡◌, ℕ, true, false, cond, length, replicate, Result};
 ghost use Rattle.exact.specs.declared.fault.NumberFault.{NumberFault};
-ghost use Rattle.rows.specs.Row.{at, Gives, Does, done, Leaves, swept, whole_op, over_op, whole_row, less_row, less_swept, over_row, cleared, clear_swept, highest};
+ghost use Rattle.rows.specs.Row.{at, Gives, Keeps, Does, done, Leaves, swept, whole_op, over_op, whole_row, less_row, less_swept, over_row, cleared, clear_swept, highest};
 
 use crate::fault::RowFault;
 use exact::fault::NumberFault;
@@ -30,6 +30,19 @@ fn sweep<K: Number, F: Fn(usize, K) -> Result<K, NumberFault>>(
     Ok(())
 }
 
+// The same of an operation that leaves each column from `count` on as it is: those are not gone over.
+fn sweep_first<K: Number, F: Fn(usize, K) -> Result<K, NumberFault>>(
+    w: &mut [K],
+    count: usize,
+    op: F,
+) -> Result<(), RowFault>
+    requires callable { F.IsAlwaysCallable op }
+    ensures { (step : ℕ → K → Result K NumberFault) → Gives (F.post op) step → Keeps count step → Does step w.old result w.new }
+{
+    let end = count.min(w.len());
+    sweep(&mut w[..end], op)
+}
+
 // Writes the values of whole numbers over a row, as far as both go.
 pub fn load<K: Number>(w: &mut [K], numbers: &[i32]) -> Result<(), RowFault>
     ensures answer { result ≡ done (whole_row K.kind numbers.now w.old) }
@@ -37,7 +50,7 @@ pub fn load<K: Number>(w: &mut [K], numbers: &[i32]) -> Result<(), RowFault>
     ensures left { w.new ≡ swept (whole_op K.kind numbers.now) 0 w.old }
     ensures always { K.COMPLETE ≡ true → result ≡ Ok tt }
 {
-    sweep(w, |i, x| match numbers.get(i) {
+    sweep_first(w, numbers.len(), |i, x| match numbers.get(i) {
         Some(&a) => K::whole(a),
         None => Ok(x),
     })
@@ -65,7 +78,7 @@ pub fn subtract<K: Number>(w: &mut [K], f: K, by: &[K]) -> Result<(), RowFault>
     ensures left { w.new ≡ less_swept K.kind f w.old by.now }
     ensures always { K.COMPLETE ≡ true → result ≡ Ok tt }
 {
-    sweep(w, |i, x| match by.get(i) {
+    sweep_first(w, by.len(), |i, x| match by.get(i) {
         Some(&y) => x.less_times(f, y),
         None => Ok(x),
     })

@@ -1,5 +1,7 @@
 -- The mark of the innermost trial, and what its close leaves.
 use Rattle.std.proofs.Common.{◌≡◌, ℕ, Bool, true, false, cond, List, [], ◌∷◌, length, Some, IsSome, Ok, Err, Result, sym, refl, arith}
+use Rattle.std.proofs.Common.{eqb, None}
+use Rattle.std.proofs.lemmas.Bool.Decides.{nat_tests}
 use Rattle.exact.specs.Kind.{Kind}
 use Rattle.ledger.specs.Marked.{newest_of, older}
 use Rattle.sheet.proofs.Cases.{ok_no_err}
@@ -9,10 +11,25 @@ use Rattle.sheet.specs.declared.trial.Trial.{Trial}
 use Rattle.sheet.specs.Stored.{Stored, with_marks}
 use Rattle.sheet.specs.Trials.{mark_of, innermost, closing, keep_after, taken_back, withdraw_after}
 
+-- whether a trial is the innermost
+module _ {V : Type 0} (S : Stored V) (t : Trial) where
+  pub none_open : length S.marks ≡ 0 → innermost S t ≡ false
+  none_open e = grind (arith, nat_tests)
+
+  pub other_sheet : (t.number ≡ S.contents.number → ⊥) → innermost S t ≡ false
+  other_sheet n = grind (arith, nat_tests)
+
+  pub same_sheet : (length S.marks ≡ 0 → ⊥) → t.number ≡ S.contents.number → innermost S t ≡ eqb t.depth (length S.marks)
+  same_sheet n e = grind (arith, nat_tests)
+
 -- the mark of the innermost trial
 pub has_newest : (ms : List ℕ) → (length ms ≡ 0 → ⊥) → IsSome (newest_of ms)
 has_newest [] some = absurd (some refl)
 has_newest (m ∷ ms) some = refl
+
+pub newest_none : (ms : List ℕ) → newest_of ms ≡ None → length ms ≡ 0
+newest_none [] e = refl
+newest_none (m ∷ ms) e = let z : ◌≡◌ {A = ℕ} 0 1 = cc in absurd (omega arith)
 
 pub newest_some : (ms : List ℕ) (held : ℕ) → newest_of ms ≡ Some held → held ≡ mark_of ms
 newest_some [] held e = let z : ◌≡◌ {A = ℕ} 0 1 = cc in absurd (omega arith)

@@ -1,5 +1,6 @@
 -- Reading rows off the memory.
 use Rattle.std.proofs.Common.{◌≡◌, ℕ, zero, suc, ◌+◌, ◌-◌, ◌<◌, ◌≤◌, Bool, true, false, cond, eqb, List, [], ◌∷◌, length, get_or, take, drop, length-take-le, take-take, Some, None, Option, sym, refl, ap, ◌∙◌, subst, arith, get_or-take}
+use Rattle.std.proofs.Common.{get_or-drop}
 use native.Mathlib.Decide.{dec_le}
 use Rattle.std.proofs.lemmas.Iterator.Adapters.{position_from-zero}
 use Rattle.std.specs.Bool.{then_some}
@@ -75,6 +76,11 @@ kept_if false x = refl
 -- ---- where a row lies
 pub row_inside : (n j h have : ℕ) → j < h → h ≤ n → used n ≤ have → row_place n j + wide n ≤ have
 row_inside n j h have a b r = let u = used_all n (omega arith) in let f = row_fits n j (omega arith) in omega (arith, u, f, r)
+
+-- a number of it, in any column
+pub number_in_row : {V : Type 0} (K : Kind V) (n : ℕ) (m : List V) (j u : ℕ) (x : V) → row_place n j + wide n ≤ length m → u < wide n → x ≡ get_or m (row_place n j + u) x → at K (row_at n m j) u ≡ x
+number_in_row K n m j u x h b e =
+    at_is K (row_at n m j) u x (let s = row_length n j m h in omega (arith, s)) (e ∙ sym (get_or-take (wide n) (drop (row_place n j) m) u x b ∙ get_or-drop (row_place n j) m u x))
 
 pub begun : {V : Type 0} (n j : ℕ) (m : List V) → take (row_place n j + n + 1 - row_place n j) (drop (row_place n j) m) ≡ take (n + 1) (row_at n m j)
 begun n j m =

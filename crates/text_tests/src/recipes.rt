@@ -5,12 +5,10 @@ use placing::numbers::read_numbers;
 use reading::read::read_line;
 use std::test::Fail;
 
-// The column where a text stops being a line, if it does. (By match, as below: with `err` or `?` the check finds no borrow plan here for reading's Term in a Line.)
+// The column where a text stops being a line, if it does.
 fn column(text: &[u8]) -> Option<usize> {
-    match read_line(text) {
-        Ok(_) => None,
-        Err(fault) => Some(fault.column),
-    }
+    let fault = read_line(text).err()?;
+    Some(fault.column)
 }
 
 // A text, and the column where it stops being a line.
@@ -92,13 +90,9 @@ fn good_and_damaged_lines(rt: HostRuntime) {
 // The number and place that a text over two set points is refused with, if it is.
 fn refusal(text: &[u8]) -> Option<(u8, usize)> {
     let mut out = [0; 3];
-    match read_numbers(text, 2, &mut out) {
-        Ok(_) => None,
-        Err(fault) => {
-            let report = Report::from(fault);
-            Some((report.number, report.place))
-        }
-    }
+    let fault = read_numbers(text, 2, &mut out).err()?;
+    let report = Report::from(fault);
+    Some((report.number, report.place))
 }
 
 #[test]
@@ -112,9 +106,7 @@ fn refused_lines(rt: HostRuntime) {
 #[test]
 fn numbers(rt: HostRuntime) -> Result<(), Fail> {
     let mut out = [7; 4];
-    let Ok(line) = read_numbers(b"q2 - 3q1 = -4", 2, &mut out) else {
-        return Err(Fail::from("no line"));
-    };
+    let line = read_numbers(b"q2 - 3q1 = -4", 2, &mut out)?;
     assert!(rt; out[0] == -3);
     assert!(rt; out[1] == 1);
     assert!(rt; out[2] == -4);

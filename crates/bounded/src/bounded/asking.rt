@@ -1,4 +1,4 @@
-ghost use Rattle.std.specs.Prelude.{◌≡◌, ◌≤◌, [], length};
+ghost use Rattle.std.specs.Prelude.{◌≡◌, ◌≤◌, [], length, take};
 ghost use Rattle.bounded.specs.Items.{items};
 
 use super::Bounded;
@@ -11,6 +11,16 @@ impl<T: Copy, const N: usize> Bounded<T, N> {
         Bounded {
             count: 0,
             places: [filler; N],
+        }
+    }
+
+    // A list of the first `count` of these places, or of all where there are fewer.
+    pub fn of(places: [T; N], count: usize) -> Self
+        ensures { items result ≡ take count places }
+    {
+        Bounded {
+            count: count.min(N),
+            places,
         }
     }
 

@@ -1,7 +1,7 @@
-use Rattle.std.proofs.Common.{◌≡◌, ◌≤◌, length, false, subst, arith, rules}
+use Rattle.std.proofs.Common.{◌≡◌, ◌≤◌, length, false, arith, rules}
 use Rattle.std.proofs.lemmas.Grind.{common_steps}
 use Rattle.reading.specs.Terms.{at}
-use Rattle.placing.specs.Terms.{Inside, StoodBefore}
+use Rattle.placing.specs.Terms.{Inside}
 use Rattle.placing.proofs.Before.{parted, one_more}
 use Rattle.placing.proofs.check.check_terms.Goals as goal
 
@@ -9,8 +9,7 @@ pub loop-k-preserved : goal.loop-k-preserved
 loop-k-preserved c =
     let ts = c.args.terms.now in
     let k = c.loop-k.k in
-    let m : (at ts k).number ≡ c.term.inside.number = grind (arith, common_steps) in
     let i : Inside c.args.n (at ts k) = grind (arith, common_steps) in
     let l : k ≤ length ts = omega arith in
     let r : c.stood_before.result ≡ false = search rules in
-    one_more ts c.args.n k c.loop-k.invariant (i, λ s. c.stood_before.ensures.absent r (parted ts k _ l (subst (StoodBefore ts k) m s)))
+    one_more ts c.args.n k c.loop-k.invariant (i, λ s. c.stood_before.ensures.absent r (parted ts k _ l s))
